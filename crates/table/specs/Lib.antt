@@ -1,0 +1,3 @@
+-- The table's kind, and the view of a table as regions.
+pub mod Kind
+pub mod Regions

@@ -1,0 +1,141 @@
+// The linked table's kind, and its words by row and field.
+// The functions on a table rest on its size (`Sized`), which the calls offered outside have tested.
+ghost use mathlib.Core.Path.{_≡_};
+ghost use Prim.Native.Nat.{_<_, _≤_};
+ghost use lib.ListN.{getD};
+ghost use Rattle.table.specs.Kind as kind;
+ghost use Rattle.table.specs.Regions.{Sized, Writes, itemWord, clientWord, countWord, bucketWord, setHeader, setItem, setClient, setCount, setBucket};
+
+// The table whose requests and clients are linked both ways.
+pub struct LinkedTable {}
+
+impl LinkedTable {
+    pub const MARK: u32 = 0x484C_0001;
+
+    pub const LARGEST: usize = 1000;
+
+    pub const NONE: u32 = 4_294_967_295;
+
+    // Words of the header and of a row of each kind; a bucket is one word.
+    pub const HEADER: usize = 16;
+
+    pub const ITEM: usize = 6;
+
+    pub const CLIENT: usize = 7;
+
+    pub const COUNT: usize = 2;
+
+    // Words for each place of the window: of the regions before the count rows, before the buckets, and of all.
+    pub const TO_COUNTS: usize = Self::ITEM + Self::CLIENT;
+
+    pub const TO_BUCKETS: usize = Self::TO_COUNTS + Self::COUNT;
+
+    pub const PLACE: usize = Self::TO_BUCKETS + 1;
+
+    // Words of the header.
+    pub const MARK_AT: usize = 0;
+
+    pub const SIZE_AT: usize = 1;
+
+    pub const REQUESTS_AT: usize = 2;
+
+    pub const CLIENTS_AT: usize = 3;
+
+    pub const FRONT_AT: usize = 4;
+
+    pub const BACK_AT: usize = 5;
+
+    pub const LIGHTEST_AT: usize = 6;
+
+    pub const HEAVIEST_AT: usize = 7;
+
+    pub const FREE_ITEM_AT: usize = 8;
+
+    pub const FREE_CLIENT_AT: usize = 9;
+
+    pub const ZEROS_AT: usize = 10;
+
+    // Words of an item row.
+    pub const OWNER: usize = 0;
+
+    pub const TICKET: usize = 1;
+
+    pub const EARLIER: usize = 2;
+
+    pub const LATER: usize = 3;
+
+    pub const OWN_EARLIER: usize = 4;
+
+    pub const OWN_LATER: usize = 5;
+
+    // Words of a client row.
+    pub const ID: usize = 0;
+
+    pub const WAITING: usize = 1;
+
+    pub const LIGHTER: usize = 2;
+
+    pub const HEAVIER: usize = 3;
+
+    pub const OLDEST: usize = 4;
+
+    pub const NEWEST: usize = 5;
+
+    pub const NEXT_IN_BUCKET: usize = 6;
+
+    // Words of a count row.
+    pub const LIGHT_END: usize = 0;
+
+    pub const HEAVY_END: usize = 1;
+
+    // Whether a table may have q places.
+    pub fn in_range(q: usize) -> bool
+        ensures { λ r. ⌜ r ≡ kind.inRange q ⌝ }
+    {
+        1 <= q && q <= Self::LARGEST
+    }
+
+    // The words of a table of q places.
+    pub fn size(q: usize) -> usize
+        requires { ⌜ q ≤ kind.largest ⌝ }
+        ensures { λ r. ⌜ r ≡ kind.size q ⌝ }
+    {
+        Self::HEADER + Self::PLACE * q
+    }
+}
+
+// A word of a client row.
+pub fn client(t: &[u32], q: usize, r: u32, f: usize) -> u32
+    requires { ⌜ Sized q (now t) ⌝ }
+    requires { ⌜ (r < q) × (f < kind.clientWords) ⌝ }
+    ensures { λ x. ⌜ x ≡ clientWord (now (t .entry)) q r f ⌝ }
+{
+    t[LinkedTable::HEADER + LinkedTable::ITEM * q + LinkedTable::CLIENT * (r as usize) + f]
+}
+
+pub fn set_client(t: &mut [u32], q: usize, r: u32, f: usize, v: u32)
+    requires { ⌜ Sized q (now t) ⌝ }
+    requires { ⌜ (r < q) × (f < kind.clientWords) ⌝ }
+    ensures { λ _. ⌜ Writes q (now (t .entry)) (now (t .exit)) (setClient r f v) 1 ⌝ }
+    ensures { λ _. ⌜ Sized q (now (t .exit)) ⌝ }
+{
+    t[LinkedTable::HEADER + LinkedTable::ITEM * q + LinkedTable::CLIENT * (r as usize) + f] = v;
+}
+
+// The first row of a bucket.
+pub fn bucket(t: &[u32], q: usize, b: usize) -> u32
+    requires { ⌜ Sized q (now t) ⌝ }
+    requires { ⌜ b < q ⌝ }
+    ensures { λ x. ⌜ x ≡ bucketWord (now (t .entry)) q b ⌝ }
+{
+    t[LinkedTable::HEADER + LinkedTable::TO_BUCKETS * q + b]
+}
+
+pub fn set_bucket(t: &mut [u32], q: usize, b: usize, v: u32)
+    requires { ⌜ Sized q (now t) ⌝ }
+    requires { ⌜ b < q ⌝ }
+    ensures { λ _. ⌜ Writes q (now (t .entry)) (now (t .exit)) (setBucket b v) 1 ⌝ }
+    ensures { λ _. ⌜ Sized q (now (t .exit)) ⌝ }
+{
+    t[LinkedTable::HEADER + LinkedTable::TO_BUCKETS * q + b] = v;
+}
