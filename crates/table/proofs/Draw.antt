@@ -8,12 +8,19 @@ use native.Mathlib.Omega.{arith}
 use lib.Dec.{eqb·zero-suc, eqb·suc-zero, eqb·suc-suc}
 use lib.ListN.{length, getD, set, length-append, List·getD-append}
 use lib.Seq.{getD-append-add, set-append-left}
+use borrow.Author.Tests.{eq-eqb, ne-eqb}
 use Rattle.table.specs.Kind as kind
 use Rattle.table.specs.Regions.{Regions, upto, rows, words, itemWord, clientWord, countWord, bucketWord, at, upd, setHeader, setItem, setClient, setCount, setBucket}
 
 pub cond-same : (b : Bool) (x : ℕ) → cond b x x ≡ x
 cond-same true x = refl
 cond-same false x = refl
+
+pub at-same : (f : ℕ → ℕ) (a v : ℕ) → at f a v a ≡ v
+at-same f a v = rw (eq-eqb a a refl)
+
+pub at-other : (f : ℕ → ℕ) (a v i : ℕ) → (i ≡ a → ⊥) → at f a v i ≡ f i
+at-other f a v i h = rw (ne-eqb i a h)
 
 -- upto
 

@@ -1,0 +1,10 @@
+-- What the documents say, as definitions, in the order in which to read them.
+pub mod History
+pub mod Rows
+pub mod Spread
+pub mod Picture
+pub mod Steps
+pub mod Draw
+pub mod Linked
+pub mod Sound
+pub mod Verdict
