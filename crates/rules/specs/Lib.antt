@@ -8,5 +8,6 @@ pub mod Commands
 pub mod Draw
 pub mod Linked
 pub mod Sound
+pub mod Parts
 pub mod Verdict
 pub mod Cases
