@@ -2,3 +2,7 @@
 pub mod Put
 pub mod Rows
 pub mod Linked
+pub mod Columns
+pub mod Look
+pub mod Right
+pub mod Held

@@ -11,7 +11,7 @@ use lib.ListN.{length}
 use borrow.Author.Tests.{eqb-true, eqb-false, eq-eqb, ne-eqb}
 use Rattle.table.specs.Regions.{upto}
 use Rattle.table.proofs.Draw.{length-upto}
-use Rattle.rules.specs.Rows.{headOr, lastOr, without, In, NotIn, All, Distinct, Below, Once}
+use Rattle.rules.specs.Rows.{headOr, lastOr, without, In, NotIn, All, Distinct, Below, Once, Rising}
 use Rattle.rules.proofs.Put.{Put, here, put-second, put-in, take-in, put-notin, take-notin, put-distinct, take-distinct, put-below, take-below, put-length, without-put}
 
 -- in and not in
@@ -142,6 +142,10 @@ head-in n [] = inl refl
 head-in n (x ∷ xs) = inr (inl refl)
 
 -- the ends of a list that is not empty, whatever stands for an empty one's
+pub head-some : (n : ℕ) (xs : List ℕ) → 1 ≤ length xs → In (headOr n xs) xs
+head-some n [] h = absurd (not-suc-le-zero h)
+head-some n (x ∷ xs) h = inl refl
+
 pub head-any : (a b : ℕ) (xs : List ℕ) → 1 ≤ length xs → headOr a xs ≡ headOr b xs
 head-any a b [] h = absurd (not-suc-le-zero h)
 head-any a b (x ∷ xs) h = refl
@@ -256,3 +260,12 @@ all-snoc F (y ∷ xs) x a f = (a .0, all-snoc F xs x (a .1) f)
 pub map-snoc : {A B : Type 0} (f : A → B) (xs : List A) (x : A) → map f (xs ++ x ∷ []) ≡ map f xs ++ (f x ∷ [])
 map-snoc f [] x = refl
 map-snoc f (y ∷ xs) x = ap (λ (l : List _). f y ∷ l) (map-snoc f xs x)
+
+pub rebuild : {A : Type 0} (key : A → ℕ) (make : ℕ → A) (xs : List A) → All (λ x. make (key x) ≡ x) xs → map make (map key xs) ≡ xs
+rebuild key make [] a = refl
+rebuild key make (x ∷ xs) a = ap₂ _∷_ (a .0) (rebuild key make xs (a .1))
+
+-- of numbers that never fall none is below the first bound
+pub rising-least : (m : ℕ) (f : ℕ → ℕ) (xs : List ℕ) → Rising m (map f xs) → (r : ℕ) → In r xs → m ≤ f r
+rising-least m f [] u r i = absurd i
+rising-least m f (x ∷ xs) u r i = ⊎-elim (λ e. rw e (u .0)) (λ j. omega (arith, u .0, rising-least (f x) f xs (u .1) r j)) i

@@ -2,3 +2,4 @@
 pub mod Draw
 pub mod Whole
 pub mod Write
+pub mod Fields
