@@ -6,3 +6,5 @@ pub mod Columns
 pub mod Look
 pub mod Right
 pub mod Held
+pub mod Decide
+pub mod Sound
