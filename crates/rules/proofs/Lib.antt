@@ -8,3 +8,4 @@ pub mod Right
 pub mod Held
 pub mod Decide
 pub mod Sound
+pub mod Empty
