@@ -9,3 +9,4 @@ pub mod Held
 pub mod Decide
 pub mod Sound
 pub mod Empty
+pub mod Clients

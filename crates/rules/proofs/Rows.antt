@@ -253,6 +253,10 @@ pub in-all : (F : ℕ → Type 0) (xs : List ℕ) → ((r : ℕ) → In r xs →
 in-all F [] h = tt
 in-all F (x ∷ xs) h = (h x (inl refl), in-all F xs (λ r i. h r (inr i)))
 
+pub notin-all : {A : Type 0} (key : A → ℕ) (r : ℕ) (xs : List A) → NotIn r (map key xs) → All (λ x. r ≡ key x → ⊥) xs
+notin-all key r [] n = tt
+notin-all key r (x ∷ xs) n = (n .0, notin-all key r xs (n .1))
+
 pub all-snoc : {A : Type 0} (F : A → Type 0) (xs : List A) (x : A) → All F xs → F x → All F (xs ++ x ∷ [])
 all-snoc F [] x a f = (f, tt)
 all-snoc F (y ∷ xs) x a f = (a .0, all-snoc F xs x (a .1) f)
