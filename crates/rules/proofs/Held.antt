@@ -87,8 +87,8 @@ region-agrees : (q k link : ℕ) (g d : ℕ → ℕ → ℕ) (xs ys : List ℕ) 
 region-agrees q k link g d xs ys h w on chain dz gz waits r f l m =
     ⊎-elim (λ i. waits r i f m)
     (λ i. elim (ℕ-discrete f link) [
-      yes e ↦ rw e (free-column q (λ r. g r link) xs ys w h chain r i ∙ sym (on r))
-    | no n ↦ gz r i f m n ∙ sym (dz r i f m n)
+      | yes e ↦ rw e (free-column q (λ r. g r link) xs ys w h chain r i ∙ sym (on r))
+      | no n ↦ gz r i f m n ∙ sym (dz r i f m n)
     ]) (in-either r xs ys (fills q (xs ++ ys) w r l))
 
 -- what holds a right picture agrees with its drawing

@@ -10,3 +10,5 @@ pub mod Decide
 pub mod Sound
 pub mod Empty
 pub mod Clients
+pub mod Parts
+pub mod Cases

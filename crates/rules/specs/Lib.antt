@@ -4,7 +4,10 @@ pub mod Rows
 pub mod Spread
 pub mod Picture
 pub mod Steps
+pub mod Commands
 pub mod Draw
 pub mod Linked
 pub mod Sound
+pub mod Parts
 pub mod Verdict
+pub mod Cases

@@ -1,4 +1,4 @@
--- A fact of every word of the header or of a row, from the same of each word by its name.
+-- A fact of each number below n, and so of every word of the header or of a row, from the same of each word by its name.
 use Prim.Native.Nat.{ℕ, zero, suc, _+_, _-_, _<_}
 use mathlib.Core.Path.{_≡_, subst}
 use native.Mathlib.Nat.{not-suc-le-zero, le-of-suc-le-suc}
@@ -6,11 +6,11 @@ use native.Mathlib.Decide.{decLt}
 use native.Mathlib.Omega.{arith}
 use Rattle.table.specs.Kind as kind
 
-abbrev Each : ℕ → (ℕ → Type 0) → Type 0
+abbrev pub Each : ℕ → (ℕ → Type 0) → Type 0
 Each zero F = Unit {0}
 Each (suc n) F = F zero × Each n (λ i. F (suc i))
 
-each : (n : ℕ) (F : ℕ → Type 0) → Each n F → (f : ℕ) → f < n → F f
+pub each : (n : ℕ) (F : ℕ → Type 0) → Each n F → (f : ℕ) → f < n → F f
 each zero F a f h = absurd (not-suc-le-zero h)
 each (suc n) F a zero h = a .0
 each (suc n) F a (suc f) h = each n (λ i. F (suc i)) (a .1) f (le-of-suc-le-suc h)
@@ -30,6 +30,6 @@ module _ (F : ℕ → Type 0) where
       → F kind.freeItemAt → F kind.freeClientAt → ((z : ℕ) → z < kind.zeros → F (kind.zerosAt + z)) → (f : ℕ) → f < kind.headerWords → F f
   header-fields a b c d e g h i j k zeros f l =
       elim (decLt f kind.zerosAt) [
-        yes s ↦ each kind.zerosAt F (a, (b, (c, (d, (e, (g, (h, (i, (j, (k, tt)))))))))) f s
-      | no n ↦ let past : kind.zerosAt + (f - kind.zerosAt) ≡ f = omega arith in subst F past (zeros (f - kind.zerosAt) (omega arith))
+        | yes s ↦ each kind.zerosAt F (a, (b, (c, (d, (e, (g, (h, (i, (j, (k, tt)))))))))) f s
+        | no n ↦ let past : kind.zerosAt + (f - kind.zerosAt) ≡ f = omega arith in subst F past (zeros (f - kind.zerosAt) (omega arith))
       ]

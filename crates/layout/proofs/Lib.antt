@@ -1,0 +1,3 @@
+-- Laws of lay-out and carve.
+pub mod Laws
+pub mod Calls

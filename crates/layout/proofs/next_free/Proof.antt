@@ -1,0 +1,23 @@
+-- By the test. Assumes nothing.
+use borrow.Author.Tests.{lt-ltb, le-ltb}
+use borrow.Author.Needs.{needs}
+use Rattle.layout.proofs.next_free.Statement.{statement}
+use Rattle.layout.proofs.next_free.Tie as tie
+
+add-if1 : tie.Need-add-if1
+add-if1 c = search needs
+
+add-result : tie.Need-add-result
+add-result c = search needs
+
+cast-result : tie.Need-cast-result
+cast-result c = search needs
+
+returns : tie.Need-returns
+returns c = rw (lt-ltb _ _ (c .if1 .taken))
+
+returns-2 : tie.Need-returns-2
+returns-2 c = rw (le-ltb _ _ (c .if1 .left))
+
+pub next-free-spec : {M : Type 1} → statement M
+next-free-spec = tie.close (tie.spec add-if1 add-result cast-result returns returns-2)
