@@ -11,4 +11,5 @@ pub mod Sound
 pub mod Empty
 pub mod Clients
 pub mod Parts
+pub mod Moved
 pub mod Cases
