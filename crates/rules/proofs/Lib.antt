@@ -1,4 +1,5 @@
 -- Laws of the definitions.
+pub mod Choose
 pub mod Put
 pub mod Rows
 pub mod Linked
@@ -10,3 +11,5 @@ pub mod Decide
 pub mod Sound
 pub mod Empty
 pub mod Clients
+pub mod Plain
+pub mod Settle
