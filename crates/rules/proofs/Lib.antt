@@ -13,3 +13,4 @@ pub mod Empty
 pub mod Clients
 pub mod Plain
 pub mod Settle
+pub mod Moves

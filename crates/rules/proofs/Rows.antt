@@ -11,7 +11,7 @@ use lib.ListN.{length}
 use borrow.Author.Tests.{eqb-true, eqb-false, eq-eqb, ne-eqb}
 use Rattle.table.specs.Regions.{upto}
 use Rattle.table.proofs.Draw.{length-upto}
-use Rattle.rules.specs.Rows.{headOr, lastOr, without, In, NotIn, All, Distinct, Below, Once, Rising}
+use Rattle.rules.specs.Rows.{headOr, lastOr, rest, without, In, NotIn, All, Distinct, Below, Once, Rising}
 use Rattle.rules.proofs.Put.{Put, here, put-map, put-second, all-puts, put-in, take-in, put-notin, take-notin, put-distinct, take-distinct, put-below, take-below, put-length, without-put}
 
 -- in and not in
@@ -153,6 +153,10 @@ head-any a b (x ∷ xs) h = refl
 pub last-any : (a b : ℕ) (xs : List ℕ) → 1 ≤ length xs → lastOr a xs ≡ lastOr b xs
 last-any a b [] h = absurd (not-suc-le-zero h)
 last-any a b (x ∷ xs) h = refl
+
+pub head-rest : (n : ℕ) (xs : List ℕ) → 1 ≤ length xs → xs ≡ headOr n xs ∷ rest xs
+head-rest n [] h = absurd (not-suc-le-zero h)
+head-rest n (x ∷ xs) h = refl
 
 -- a list without one of its rows
 

@@ -27,6 +27,9 @@ pub record Step (q : ℕ) (s : Waiting) (J : Picture) : Type 0 where
   pub size : J .size ≡ q
   pub plain : plain J ≡ s
 
+pub step-so : {q : ℕ} {s t : Waiting} {J : Picture} → s ≡ t → Step q s J → Step q t J
+step-so e j = record { right = j .right; size = j .size; plain = j .plain ∙ e }
+
 -- the client c may have any count; the others xs are in order
 pub record Near (c : Client) (xs : List Client) (P : Picture) : Type 0 where
   pub standing : Standing (P .size) (P .clients) (P .freeClients) (P .chains)
@@ -52,7 +55,7 @@ settled c P =
 
 -- a count changes with an item of the client's own alone
 
-count-more : {i : Item} {v w : List Item} → Put i v w → countOf w (i .client) ≡ suc (countOf v (i .client))
+pub count-more : {i : Item} {v w : List Item} → Put i v w → countOf w (i .client) ≡ suc (countOf v (i .client))
 count-more {i} p = put-length (own-put (i .client) p refl)
 
 counts-kept : {i : Item} {v w : List Item} (rs : List ℕ) → Put i v w → NotIn (i .client) rs → map (countOf w) rs ≡ map (countOf v) rs
