@@ -14,3 +14,4 @@ pub mod Clients
 pub mod Plain
 pub mod Settle
 pub mod Moves
+pub mod Leaving

@@ -62,7 +62,7 @@ counts-kept : {i : Item} {v w : List Item} (rs : List ℕ) → Put i v w → Not
 counts-kept {i} {v} {w} rs p n =
     map-so (countOf w) (countOf v) rs (in-all _ rs (λ r j. ap length (own-kept r p (other (i .client) r rs n j))))
 
-none-own : (c : ℕ) (w : List Item) → countOf w c ≡ 0 → All (λ i. i .client ≡ c → ⊥) w
+pub none-own : (c : ℕ) (w : List Item) → countOf w c ≡ 0 → All (λ i. i .client ≡ c → ⊥) w
 none-own c w z = all-puts _ w (λ i v p e. omega (arith, put-length (own-put c p e), z))
 
 module _ {c : Client} {xs : List Client} {P : Picture} (n : Near c xs P) where
