@@ -15,3 +15,4 @@ pub mod Plain
 pub mod Settle
 pub mod Moves
 pub mod Leaving
+pub mod Steps
