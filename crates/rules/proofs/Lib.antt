@@ -16,3 +16,4 @@ pub mod Settle
 pub mod Moves
 pub mod Leaving
 pub mod Steps
+pub mod Written
