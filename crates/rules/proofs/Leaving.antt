@@ -17,11 +17,11 @@ use Rattle.rules.specs.History.{Request, heaviestClient, changed, evict,
 use Rattle.rules.specs.Picture.{Item, Client, Picture, item, clientRow, clientId, clientRows, countOf, idOf, requestOf, plain}
 use Rattle.rules.specs.Steps.{leave, newestItem, frontItem}
 use Rattle.rules.specs.Sound.{Right}
-use Rattle.rules.proofs.Put.{Put, here, there, put-map, put-in, put-length, take-distinct}
-use Rattle.rules.proofs.Look.{look-same, own-put}
-use Rattle.rules.proofs.Right.{clients-distinct, counts-one, clients-fit}
+use Rattle.rules.proofs.Put.{Put, here, there, put-map, put-in, take-distinct}
+use Rattle.rules.proofs.Look.{look-same}
+use Rattle.rules.proofs.Right.{clients-distinct, counts-one}
 use Rattle.rules.proofs.Plain.{id-test, count-plain}
-use Rattle.rules.proofs.Settle.{Step, step-so, count-more, none-own}
+use Rattle.rules.proofs.Settle.{Step, step-so, none-own}
 use Rattle.rules.proofs.Moves.{leave-step}
 
 -- i is the newest item of the client in row c, by row and by id

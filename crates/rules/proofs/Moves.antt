@@ -1,7 +1,7 @@
 -- A request joins and a request leaves: the picture stays right and of its size, and forgets to the plain history's step.
 use mathlib.Core.List.{List, [], _∷_, _++_, map}
 use mathlib.Core.Bool.{Bool, true, false, cond}
-use mathlib.Core.Path.{_≡_, refl, sym, ap, ap₂, _∙_, subst}
+use mathlib.Core.Path.{_≡_, refl, sym, ap, ap₂, _∙_}
 use mathlib.Core.Logic.{inl, inr}
 use Prim.Native.Nat.{ℕ, _≤_}
 use native.Mathlib.Omega.{arith}
@@ -9,20 +9,20 @@ use lib.Dec.{eqb}
 use lib.ListN.{length}
 use borrow.Author.Tests.{eq-eqb, ne-eqb}
 use Rattle.table.specs.Kind as kind
-use Rattle.rules.specs.Rows.{headOr, rest, without, In, NotIn, All}
+use Rattle.rules.specs.Rows.{headOr, rest, In, NotIn}
 use Rattle.rules.specs.History as history
-use Rattle.rules.specs.History.{Request, Waiting, request, changed}
-use Rattle.rules.specs.Picture.{Item, Client, Picture, item, client, itemRow, clientRow, clientId, itemRows, clientRows, countOf, idOf, rowOf, requestOf, plain}
-use Rattle.rules.specs.Steps.{withoutItem, admit, known, joinAs, join, dropItem, release, leave}
+use Rattle.rules.specs.History.{Request, request, changed}
+use Rattle.rules.specs.Picture.{Item, Client, Picture, item, client, itemRow, clientRow, clientId, clientRows, countOf, idOf, rowOf, requestOf, plain}
+use Rattle.rules.specs.Steps.{withoutItem, admit, known, joinAs, join, leave}
 use Rattle.rules.specs.Sound.{Right}
-use Rattle.rules.proofs.Put.{Put, here, put-map, put-last, take-all, all-puts, take-distinct, take-rising, take-out}
+use Rattle.rules.proofs.Put.{Put, here, put-map, put-last, take-all, take-distinct, take-rising, take-out}
 use Rattle.rules.proofs.Rows.{other, apart-right, head-rest, without-absent, map-snoc, all-so}
 use Rattle.rules.proofs.Look.{find, look-same}
 use Rattle.rules.proofs.Decide.{has-decides, has-not}
 use Rattle.rules.proofs.Right.{items-distinct, room}
 use Rattle.rules.proofs.Clients.{Standing, rows-distinct, standing, standing-admitted}
 use Rattle.rules.proofs.Plain.{requests-so}
-use Rattle.rules.proofs.Settle.{Step, step-so, Near, waiting, settled, near-joined, near-left, near-settled, count-more}
+use Rattle.rules.proofs.Settle.{Step, step-so, Near, near-joined, near-left, near-settled, count-more}
 
 -- a right picture is near, whichever client one takes
 near : (P : Picture) {c : Client} {xs : List Client} → Right P → Put c xs (P .clients) → Near c xs P

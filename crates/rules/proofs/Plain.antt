@@ -7,9 +7,9 @@ use native.Mathlib.Decide.{ℕ-discrete, decLe}
 use native.Mathlib.Omega.{arith}
 use lib.Dec.{eqb, leb}
 use borrow.Author.Tests.{eq-eqb, ne-eqb, le-leb, lt-leb}
-use Rattle.rules.specs.Rows.{without, In, NotIn, All, Distinct, Rising}
+use Rattle.rules.specs.Rows.{without, In, All, Distinct, Rising}
 use Rattle.rules.specs.History as history
-use Rattle.rules.specs.Picture.{Item, Client, clientRow, clientId, ownRows, countOf, idOf, rowOf, requestOf}
+use Rattle.rules.specs.Picture.{Item, Client, clientRow, clientId, countOf, idOf, rowOf, requestOf}
 use Rattle.rules.specs.Steps.{withoutClient, place, moved}
 use Rattle.rules.proofs.Put.{Put, here, there, put-map, put-in, all-puts, take-all, take-distinct, take-out}
 use Rattle.rules.proofs.Choose.{either-way, side-by-side}

@@ -3,14 +3,12 @@ use mathlib.Core.List.{List, [], _∷_, _++_, map}
 use mathlib.Core.Bool.{Bool, true, false, cond}
 use mathlib.Core.Path.{_≡_, refl, sym, ap, _∙_}
 use mathlib.Core.Logic.{⊎-elim, inl}
-use Prim.Native.Nat.{ℕ, suc, _≤_}
-use native.Mathlib.Decide.{ℕ-discrete}
+use Prim.Native.Nat.{ℕ, suc}
 use native.Mathlib.Omega.{arith}
 use lib.Dec.{eqb}
 use lib.ListN.{length}
 use borrow.Author.Tests.{ne-eqb, eqb-true, eqb-false}
-use Rattle.table.specs.Kind as kind
-use Rattle.rules.specs.Rows.{headOr, rest, In, NotIn, All, Once, Rising}
+use Rattle.rules.specs.Rows.{In, NotIn, All, Once, Rising}
 use Rattle.rules.specs.History.{Waiting, changed}
 use Rattle.rules.specs.Picture.{Item, Client, Picture, item, itemRow, clientRow, clientId, itemRows, clientRows, countOf, idOf, requestOf, plain}
 use Rattle.rules.specs.Steps.{withoutClient, place, moved, release}

@@ -1,6 +1,6 @@
 -- Soundness: a right picture has one drawing and is read back from it, a sound table has one picture, and the computed test says what the clauses say.
 use mathlib.Core.List.{List}
-use mathlib.Core.Bool.{true, _&&_}
+use mathlib.Core.Bool.{true}
 use mathlib.Core.Path.{_≡_, refl, sym, ap, _∙_}
 use Prim.Native.Nat.{ℕ}
 use lib.Dec.{lit<}

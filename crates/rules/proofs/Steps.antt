@@ -1,10 +1,10 @@
 -- Arrive, slide and serve on a right picture: it stays right and of its size, and forgets to the plain history's step.
 use mathlib.Core.List.{List, [], _∷_, map}
 use mathlib.Core.Bool.{Bool, true, false, cond}
-use mathlib.Core.Path.{_≡_, refl, sym, ap, _∙_}
+use mathlib.Core.Path.{_≡_, refl, ap, _∙_}
 use Prim.Native.Nat.{ℕ, _≤_}
 use native.Mathlib.Omega.{arith}
-use lib.Dec.{eqb, leb}
+use lib.Dec.{eqb}
 use lib.ListN.{length, length-map}
 use borrow.Author.Tests.{leb-true, leb-false, eqb-true, eqb-false}
 use Rattle.rules.specs.History as history
