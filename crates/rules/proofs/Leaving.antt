@@ -48,24 +48,24 @@ module _ (cs : List Client) (c : ℕ) (d : Distinct (map clientId cs)) (i : In c
   newest-item e [] a h = absurd (not-suc-le-zero h)
   newest-item e (x ∷ w) a h =
       elim (ℕ-discrete (countOf w c) 0) [
-        yes z ↦
-          elim (ℕ-discrete (x .client) c) [
-            yes f ↦
-              let last = last-plain x w true a (rw (eq-eqb (x .client) c f, eq-eqb (countOf w c) 0 z)) in
-              rw (eq-eqb (x .client) c f, none-newer c x w (none-own c w z))
-              (record { others = w; put = here; client = f; request = rw last; rest = rw last })
-          | no n ↦ absurd (omega (arith, rw (ne-eqb (x .client) c n) at h))
-          ]
-      | no z ↦
-          let more = last-plain x w false a (rw (ne-eqb (countOf w c) 0 z) (and-false (eqb (x .client) c))) in
-          let u = newest-item (cond (eqb (x .client) c) x e) w (a .1) (omega (arith, z)) in
-          record {
-            others = x ∷ u .others;
-            put = there (u .put);
-            client = u .client;
-            request = rw more (u .request);
-            rest = rw more (ap (λ (l : List Request). requestOf cs x ∷ l) (u .rest));
-          }
+        | yes z ↦
+            elim (ℕ-discrete (x .client) c) [
+              | yes f ↦
+                  let last = last-plain x w true a (rw (eq-eqb (x .client) c f, eq-eqb (countOf w c) 0 z)) in
+                  rw (eq-eqb (x .client) c f, none-newer c x w (none-own c w z))
+                  (record { others = w; put = here; client = f; request = rw last; rest = rw last })
+              | no n ↦ absurd (omega (arith, rw (ne-eqb (x .client) c n) at h))
+            ]
+        | no z ↦
+            let more = last-plain x w false a (rw (ne-eqb (countOf w c) 0 z) (and-false (eqb (x .client) c))) in
+            let u = newest-item (cond (eqb (x .client) c) x e) w (a .1) (omega (arith, z)) in
+            record {
+              others = x ∷ u .others;
+              put = there (u .put);
+              client = u .client;
+              request = rw more (u .request);
+              rest = rw more (ap (λ (l : List Request). requestOf cs x ∷ l) (u .rest));
+            }
       ]
 
 -- the last of the clients

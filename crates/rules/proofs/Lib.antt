@@ -1,4 +1,4 @@
--- Laws of the definitions.
+-- Laws of the definitions, from lists up: of rows and columns, of right pictures and their words, and of the steps on pictures.
 pub mod Choose
 pub mod Put
 pub mod Rows
@@ -7,6 +7,7 @@ pub mod Columns
 pub mod Look
 pub mod Right
 pub mod Held
+pub mod Shown
 pub mod Decide
 pub mod Sound
 pub mod Empty

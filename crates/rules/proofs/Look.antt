@@ -25,10 +25,10 @@ pub find : {A : Type 0} (key : A → ℕ) (r : ℕ) (xs : List A) → In r (map 
 find key r [] i = absurd i
 find key r (x ∷ xs) i =
     elim (ℕ-discrete (key x) r) [
-      yes e ↦ record { one = x; others = xs; put = here; is = e; look = λ value. rw (eq-eqb (key x) r e) }
-    | no n ↦
-        let f = find key r xs (⊎-elim (λ e. absurd (n (sym e))) (λ j. j) i) in
-        record { one = f .one; others = x ∷ f .others; put = there (f .put); is = f .is; look = λ value. rw (ne-eqb (key x) r n) (f .look value) }
+      | yes e ↦ record { one = x; others = xs; put = here; is = e; look = λ value. rw (eq-eqb (key x) r e) }
+      | no n ↦
+          let f = find key r xs (⊎-elim (λ e. absurd (n (sym e))) (λ j. j) i) in
+          record { one = f .one; others = x ∷ f .others; put = there (f .put); is = f .is; look = λ value. rw (ne-eqb (key x) r n) (f .look value) }
     ]
 
 -- a key that is not there
@@ -42,8 +42,8 @@ pub put-look : {A : Type 0} (key value : A → ℕ) {c : A} {xs ys : List A} (r 
 put-look key value r here n = refl
 put-look key value {c} r (there {x = x} p) n =
     elim (ℕ-discrete (key x) r) [
-      yes e ↦ rw (eq-eqb (key x) r e, ne-eqb (key c) r (λ z. n .0 (z ∙ sym e)))
-    | no m ↦ rw (ne-eqb (key x) r m) (put-look key value r p (n .1))
+      | yes e ↦ rw (eq-eqb (key x) r e, ne-eqb (key c) r (λ z. n .0 (z ∙ sym e)))
+      | no m ↦ rw (ne-eqb (key x) r m) (put-look key value r p (n .1))
     ]
 
 pub look-same : {A : Type 0} (key value : A → ℕ) {c : A} {xs ys : List A} → Put c xs ys → NotIn (key c) (map key xs) → look key value ys (key c) ≡ value c
@@ -72,8 +72,8 @@ pub own-put : {i : Item} {v w : List Item} (c : ℕ) → Put i v w → i .client
 own-put {i} c here e = rw (eq-eqb (i .client) c e) here
 own-put c (there {x = x} p) e =
     elim (ℕ-discrete (x .client) c) [
-      yes f ↦ rw (eq-eqb (x .client) c f) (there (own-put c p e))
-    | no n ↦ rw (ne-eqb (x .client) c n) (own-put c p e)
+      | yes f ↦ rw (eq-eqb (x .client) c f) (there (own-put c p e))
+      | no n ↦ rw (ne-eqb (x .client) c n) (own-put c p e)
     ]
 
 pub own-kept : {i : Item} {v w : List Item} (c : ℕ) → Put i v w → (i .client ≡ c → ⊥) → ownRows c w ≡ ownRows c v
@@ -92,10 +92,10 @@ pub own-item : (c r : ℕ) (w : List Item) → In r (ownRows c w) → Owned c r 
 own-item c r [] i = absurd i
 own-item c r (x ∷ w) i =
     elim (ℕ-discrete (x .client) c) [
-      yes e ↦
-        ⊎-elim (λ z. record { item = x; others = w; put = here; row = sym z; client = e }) (λ j. later (own-item c r w j))
-        (rw (eq-eqb (x .client) c e) at i)
-    | no n ↦ later (own-item c r w (rw (ne-eqb (x .client) c n) at i))
+      | yes e ↦
+          ⊎-elim (λ z. record { item = x; others = w; put = here; row = sym z; client = e }) (λ j. later (own-item c r w j))
+          (rw (eq-eqb (x .client) c e) at i)
+      | no n ↦ later (own-item c r w (rw (ne-eqb (x .client) c n) at i))
     ]
   where
     later : Owned c r w → Owned c r (x ∷ w)
@@ -111,8 +111,8 @@ pub own-distinct : (c : ℕ) (w : List Item) → Distinct (map itemRow w) → Di
 own-distinct c [] d = tt
 own-distinct c (x ∷ w) d =
     elim (ℕ-discrete (x .client) c) [
-      yes e ↦ rw (eq-eqb (x .client) c e) (own-out c (x .row) w (d .0), own-distinct c w (d .1))
-    | no n ↦ rw (ne-eqb (x .client) c n) (own-distinct c w (d .1))
+      | yes e ↦ rw (eq-eqb (x .client) c e) (own-out c (x .row) w (d .0), own-distinct c w (d .1))
+      | no n ↦ rw (ne-eqb (x .client) c n) (own-distinct c w (d .1))
     ]
 
 -- a row's owner owns it, and nobody else

@@ -20,8 +20,8 @@ use Rattle.rules.proofs.Look.{look-same, look-back}
 eqb-undone : (f g : ℕ → ℕ) (a b : ℕ) → g (f a) ≡ a → g (f b) ≡ b → eqb (f a) (f b) ≡ eqb a b
 eqb-undone f g a b p q =
     elim (ℕ-discrete a b) [
-      yes e ↦ eq-eqb (f a) (f b) (ap f e) ∙ sym (eq-eqb a b e)
-    | no n ↦ ne-eqb (f a) (f b) (λ e. n (sym p ∙ ap g e ∙ q)) ∙ sym (ne-eqb a b n)
+      | yes e ↦ eq-eqb (f a) (f b) (ap f e) ∙ sym (eq-eqb a b e)
+      | no n ↦ ne-eqb (f a) (f b) (λ e. n (sym p ∙ ap g e ∙ q)) ∙ sym (ne-eqb a b n)
     ]
 
 module _ (cs : List Client) (d : Distinct (map clientId cs)) where
@@ -35,8 +35,8 @@ module _ (cs : List Client) (d : Distinct (map clientId cs)) where
   count-plain r i (x ∷ w) a =
       rw (id-test (x .client) r (a .0) i)
       (elim (ℕ-discrete (x .client) r) [
-        yes e ↦ rw (eq-eqb (x .client) r e) (ap suc (count-plain r i w (a .1)))
-      | no n ↦ rw (ne-eqb (x .client) r n) (count-plain r i w (a .1))
+        | yes e ↦ rw (eq-eqb (x .client) r e) (ap suc (count-plain r i w (a .1)))
+        | no n ↦ rw (ne-eqb (x .client) r n) (count-plain r i w (a .1))
       ])
 
   clients-plain : (w : List Item) → Distinct (map clientRow cs) → All (λ i. In (i .client) (map clientRow cs)) w
@@ -65,8 +65,8 @@ pub place-rising : (n : ℕ → ℕ) (m : ℕ) (c : Client) (xs : List Client) �
 place-rising n m c [] h u = (h, tt)
 place-rising n m c (x ∷ xs) h u =
     elim (decLe (n (c .row)) (n (x .row))) [
-      yes l ↦ rw (le-leb (n (c .row)) (n (x .row)) l) (h, (l, u .1))
-    | no g ↦ rw (lt-leb (n (c .row)) (n (x .row)) (omega arith)) (u .0, place-rising n (n (x .row)) c xs (omega arith) (u .1))
+      | yes l ↦ rw (le-leb (n (c .row)) (n (x .row)) l) (h, (l, u .1))
+      | no g ↦ rw (lt-leb (n (c .row)) (n (x .row)) (omega arith)) (u .0, place-rising n (n (x .row)) c xs (omega arith) (u .1))
     ]
 
 -- the client that moves taken out of the order
@@ -84,8 +84,8 @@ module _ {c : Client} {xs cs : List Client} (p : Put c xs cs) where
       let a = take-all _ p (clients-plain cs di w dr o) in
       rw (client-out dr, id-out di, a .0)
       (elim (ℕ-discrete (countOf w (c .row)) 0) [
-        yes e ↦ rw (eq-eqb (countOf w (c .row)) 0 e)
-      | no n ↦
-          rw (ne-eqb (countOf w (c .row)) 0 n)
-          (place-plain (countOf w) (λ i. history.count i (map (requestOf cs) w)) c xs (a .1) (a .0))
+        | yes e ↦ rw (eq-eqb (countOf w (c .row)) 0 e)
+        | no n ↦
+            rw (ne-eqb (countOf w (c .row)) 0 n)
+            (place-plain (countOf w) (λ i. history.count i (map (requestOf cs) w)) c xs (a .1) (a .0))
       ])

@@ -119,6 +119,6 @@ pub without-put : (r : ℕ) (xs : List ℕ) → In r xs → Put r (without r xs)
 without-put r [] i = absurd i
 without-put r (x ∷ xs) i =
     elim (ℕ-discrete x r) [
-      yes e ↦ rw (eq-eqb x r e) (subst (λ (z : ℕ). Put z xs (x ∷ xs)) e here)
-    | no n ↦ rw (ne-eqb x r n) (there (without-put r xs (⊎-elim (λ e. absurd (n (sym e))) (λ j. j) i)))
+      | yes e ↦ rw (eq-eqb x r e) (subst (λ (z : ℕ). Put z xs (x ∷ xs)) e here)
+      | no n ↦ rw (ne-eqb x r n) (there (without-put r xs (⊎-elim (λ e. absurd (n (sym e))) (λ j. j) i)))
     ]
