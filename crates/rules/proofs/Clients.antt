@@ -7,9 +7,9 @@ use native.Mathlib.Nat.{not-suc-le-zero, mod-lt}
 use native.Mathlib.Omega.{arith}
 use lib.ListN.{length, getD, length-map, List·getD-map}
 use Rattle.table.specs.Kind as kind
-use Rattle.rules.specs.Rows.{without, In, NotIn, All, Distinct, Once}
+use Rattle.rules.specs.Rows.{without, In, NotIn, All, Distinct, Once, Rising}
 use Rattle.rules.specs.Spread.{bucket}
-use Rattle.rules.specs.Picture.{Client, Picture, client, clientRow, clientId, concat}
+use Rattle.rules.specs.Picture.{Client, Picture, client, clientRow, clientId, itemRows, clientRows, countOf, concat}
 use Rattle.rules.specs.Steps.{enter}
 use Rattle.rules.specs.Sound.{Right}
 use Rattle.rules.proofs.Put.{Put, here, put-map, put-first, put-second, put-all, take-all, put-in, take-in, put-distinct, take-distinct, put-once, without-put}
@@ -85,6 +85,23 @@ standing P v =
       stands = v .stands;
       apart = v .apart;
       nobody = v .nobody;
+    }
+
+pub standing-right : (P : Picture) → Standing (P .size) (P .clients) (P .freeClients) (P .chains) → Once (P .size) (itemRows P ++ P .freeItems)
+    → All (λ i. In (i .client) (clientRows P)) (P .window) → Rising 1 (map (countOf (P .window)) (clientRows P)) → Right P
+standing-right P s items owners counts =
+    record {
+      least = s .least;
+      most = s .most;
+      items = items;
+      clients = s .rows;
+      owners = owners;
+      counts = counts;
+      ids = s .ids;
+      buckets = s .buckets;
+      stands = s .stands;
+      apart = s .apart;
+      nobody = s .nobody;
     }
 
 module _ {q : ℕ} {cs : List Client} {free : List ℕ} {chains : List (List ℕ)} (s : Standing q cs free chains) where

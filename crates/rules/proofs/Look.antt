@@ -2,7 +2,7 @@
 use mathlib.Core.List.{List, [], _∷_, map}
 use mathlib.Core.Bool.{cond}
 use mathlib.Core.Path.{_≡_, refl, sym, ap, _∙_}
-use mathlib.Core.Logic.{⊎-elim, inl, inr}
+use mathlib.Core.Logic.{⊎-elim, inl}
 use Prim.Native.Nat.{ℕ, _≤_}
 use native.Mathlib.Decide.{ℕ-discrete}
 use lib.Dec.{eqb}
@@ -10,7 +10,7 @@ use borrow.Author.Tests.{eq-eqb, ne-eqb}
 use Rattle.rules.specs.Rows.{headOr, In, NotIn, All, Distinct}
 use Rattle.rules.specs.Picture.{Item, itemRow, ownRows, countOf, look}
 use Rattle.rules.specs.Draw.{ownerOf}
-use Rattle.rules.proofs.Put.{Put, here, there, put-map, put-in, take-all, take-distinct}
+use Rattle.rules.proofs.Put.{Put, here, there, put-map, put-in, take-all, all-puts, take-distinct}
 use Rattle.rules.proofs.Rows.{other, not-both, notin, head-some}
 
 -- the one of a key that is there, and what is looked up by it
@@ -56,11 +56,9 @@ look-in key value o xs a r i =
 
 pub look-all : {A : Type 0} (key value : A → ℕ) (o : ℕ → ℕ) (xs : List A) → Distinct (map key xs) → ((r : ℕ) → In r (map key xs) → o r ≡ look key value xs r)
     → All (λ x. o (key x) ≡ value x) xs
-look-all key value o [] d h = tt
-look-all key value o (x ∷ xs) d h = (
-  h (key x) (inl refl) ∙ rw (eq-eqb (key x) (key x) refl),
-  look-all key value o xs (d .1) (λ r i. h r (inr i) ∙ rw (ne-eqb (key x) r (other (key x) r (map key xs) (d .0) i))),
-)
+look-all key value o xs d h =
+    all-puts (λ x. o (key x) ≡ value x) xs
+    (λ x ys p. h (key x) (put-in (key x) (put-map key p) (inl refl)) ∙ look-same key value p (take-distinct (put-map key p) d .0))
 
 -- looked up there and back
 pub look-back : {A : Type 0} (key value : A → ℕ) (xs : List A) → Distinct (map value xs) → (r : ℕ) → In r (map key xs) → look value key xs (look key value xs r) ≡ r

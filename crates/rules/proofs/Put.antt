@@ -48,6 +48,10 @@ pub take-all : {A : Type 0} (F : A → Type 0) {c : A} {xs ys : List A} → Put 
 take-all F here a = a
 take-all F (there p) a = let u = take-all F p (a .1) in (u .0, (a .0, u .1))
 
+pub all-puts : {A : Type 0} (F : A → Type 0) (ys : List A) → ((c : A) (xs : List A) → Put c xs ys → F c) → All F ys
+all-puts F [] h = tt
+all-puts F (y ∷ ys) h = (h y ys here, all-puts F ys (λ c xs p. h c (y ∷ xs) (there p)))
+
 -- who is in, and that each is there once
 
 pub put-in : {r : ℕ} {xs ys : List ℕ} (z : ℕ) → Put r xs ys → (z ≡ r) ⊎ In z xs → In z ys
