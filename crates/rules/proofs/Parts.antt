@@ -1,19 +1,20 @@
 -- A picture is held where its parts are: the clients' order, the waiting items, the chains, and the header.
 use mathlib.Core.List.{List, [], _∷_, _++_, map}
 use mathlib.Core.Bool.{Bool, true, false, cond}
-use mathlib.Core.Path.{_≡_, refl, sym, ap, _∙_, subst}
-use mathlib.Core.Logic.{⊎-elim}
-use Prim.Native.Nat.{ℕ, _+_, _≤_, _<_}
+use mathlib.Core.Path.{_≡_, refl, sym, ap, ap₂, _∙_, subst}
+use mathlib.Core.Logic.{⊎-elim, inl, inr}
+use Prim.Native.Nat.{ℕ, suc, _+_, _≤_, _<_}
 use native.Mathlib.Omega.{arith}
 use lib.Dec.{eqb, lit<}
 use lib.ListN.{length, getD, length-map}
 use Rattle.table.specs.Kind as kind
 use Rattle.table.specs.Regions.{Regions}
 use Rattle.table.proofs.Fields.{client-fields}
-use Rattle.rules.specs.Rows.{headOr, lastOr, In, All}
+use Rattle.rules.specs.Rows.{headOr, lastOr, In, All, Rising}
 use Rattle.rules.specs.Linked as linked
 use Rattle.rules.specs.Linked.{Links, Linked, Chain}
 use Rattle.rules.specs.Picture.{Item, Picture, itemRow, clientRow, itemRows, clientRows, ownRows, countOf}
+use Rattle.rules.specs.Draw.{group}
 use Rattle.rules.specs.Sound.{Right, Holds}
 use Rattle.rules.specs.Parts.{Ordered, Own, Queued}
 use Rattle.rules.proofs.Rows.{apart-right, in-either, in-right, in-below, all-so, fills, head-any, last-any}
@@ -134,3 +135,29 @@ module _ (P : Picture) (v : Right P) (R : Regions) where
           freeClients = o .chain;
           freeClient = λ r i. free-client r i (next r i);
         }
+
+-- the order by other counts that are the same at its rows
+module _ (n m : ℕ → ℕ) where
+  counts-so : (rows : List ℕ) → ((r : ℕ) → In r rows → n r ≡ m r) → map n rows ≡ map m rows
+  counts-so [] e = refl
+  counts-so (r ∷ rows) e = ap₂ _∷_ (e r (inl refl)) (counts-so rows (λ x i. e x (inr i)))
+
+  group-so : (k : ℕ) (rows : List ℕ) → ((r : ℕ) → In r rows → n r ≡ m r) → group n k rows ≡ group m k rows
+  group-so k [] e = refl
+  group-so k (r ∷ rows) e =
+      ap₂ (λ (x : ℕ) (l : List ℕ). cond (eqb x k) (r ∷ l) l) (e r (inl refl)) (group-so k rows (λ x i. e x (inr i)))
+
+  pub ordered-so : {q : ℕ} {R : Regions} {rows free : List ℕ} → ((r : ℕ) → In r rows → n r ≡ m r) → Ordered q R rows n free → Ordered q R rows m free
+  ordered-so {q} {rows = rows} e o =
+      record {
+        number = o .number;
+        linked = o .linked;
+        counted = λ r i. o .counted r i ∙ e r i;
+        rising = subst (Rising 1) (counts-so rows e) (o .rising);
+        most = λ r i. subst (λ (z : ℕ). z ≤ q) (e r i) (o .most r i);
+        lightEnd = λ k l. o .lightEnd k l ∙ ap (headOr kind.none) (group-so (suc k) rows e);
+        heavyEnd = λ k l. o .heavyEnd k l ∙ ap (lastOr kind.none) (group-so (suc k) rows e);
+        each = o .each;
+        chain = o .chain;
+        idle = o .idle;
+      }
