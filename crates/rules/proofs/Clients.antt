@@ -4,6 +4,7 @@ use mathlib.Core.Path.{_≡_, refl, sym, ap, ap₂, _∙_}
 use mathlib.Core.Logic.{⊎-elim, inl, inr}
 use Prim.Native.Nat.{ℕ, zero, suc, _≤_, _<_}
 use native.Mathlib.Nat.{not-suc-le-zero, mod-lt}
+use native.Mathlib.Decide.{ℕ-discrete}
 use native.Mathlib.Omega.{arith}
 use lib.ListN.{length, getD, length-map, List·getD-map}
 use Rattle.table.specs.Kind as kind
@@ -16,7 +17,26 @@ use Rattle.rules.proofs.Put.{Put, here, put-map, put-first, put-second,
 use Rattle.rules.proofs.Rows.{not-both, notin, in-or-not, in-either, other, notin-left, notin-right, distinct-left, distinct-right, apart-right, without-in, without-absent, all-so, all-both, all-in, in-all, notin-all}
 use Rattle.rules.proofs.Columns.{in-concat}
 
--- a row enters in front of a chain
+-- a row enters in front of its chain, and the other chains stay
+
+pub enter-front : (b r : ℕ) (cs : List (List ℕ)) → b < length cs → getD (enter b r cs) b [] ≡ r ∷ getD cs b []
+enter-front b r [] h = absurd (not-suc-le-zero h)
+enter-front zero r (c ∷ cs) h = refl
+enter-front (suc b) r (c ∷ cs) h = enter-front b r cs (omega arith)
+
+pub enter-other : (b r : ℕ) (cs : List (List ℕ)) (a : ℕ) → (a ≡ b → ⊥) → getD (enter b r cs) a [] ≡ getD cs a []
+enter-other b r [] a n = refl
+enter-other zero r (c ∷ cs) zero n = absurd (n refl)
+enter-other zero r (c ∷ cs) (suc a) n = refl
+enter-other (suc b) r (c ∷ cs) zero n = refl
+enter-other (suc b) r (c ∷ cs) (suc a) n = enter-other b r cs a (λ e. n (ap suc e))
+
+enter-kept : (b r z : ℕ) (cs : List (List ℕ)) (a : ℕ) → b < length cs → In z (getD cs a []) → In z (getD (enter b r cs) a [])
+enter-kept b r z cs a h i =
+    elim (ℕ-discrete a b) [
+      | yes e ↦ rw (e, enter-front b r cs h) (inr (rw e at i))
+      | no n ↦ rw (enter-other b r cs a n) i
+    ]
 
 enter-length : (b r : ℕ) (cs : List (List ℕ)) → length (enter b r cs) ≡ length cs
 enter-length b r [] = refl
@@ -27,18 +47,6 @@ enter-put : (b r : ℕ) (cs : List (List ℕ)) → b < length cs → Put r (conc
 enter-put b r [] h = absurd (not-suc-le-zero h)
 enter-put zero r (c ∷ cs) h = here
 enter-put (suc b) r (c ∷ cs) h = put-second c (enter-put b r cs (omega arith))
-
-enter-here : (b r : ℕ) (cs : List (List ℕ)) → b < length cs → In r (getD (enter b r cs) b [])
-enter-here b r [] h = absurd (not-suc-le-zero h)
-enter-here zero r (c ∷ cs) h = inl refl
-enter-here (suc b) r (c ∷ cs) h = enter-here b r cs (omega arith)
-
-enter-kept : (b r z : ℕ) (cs : List (List ℕ)) (a : ℕ) → In z (getD cs a []) → In z (getD (enter b r cs) a [])
-enter-kept b r z [] a i = i
-enter-kept zero r z (c ∷ cs) zero i = inr i
-enter-kept zero r z (c ∷ cs) (suc a) i = i
-enter-kept (suc b) r z (c ∷ cs) zero i = i
-enter-kept (suc b) r z (c ∷ cs) (suc a) i = enter-kept b r z cs a i
 
 -- a row leaves its chain
 
@@ -159,8 +167,8 @@ standing-admitted {q} {r} {id} {cs} {free} {chains} s n =
       ids = (n, s .ids);
       buckets = enter-length (bucket q id) r chains ∙ s .buckets;
       stands = (
-        enter-here (bucket q id) r chains b,
-        all-so _ _ cs (λ c i. enter-kept (bucket q id) r (c .row) chains (bucket q (c .id)) i) (s .stands),
+        rw (enter-front (bucket q id) r chains b) (inl refl),
+        all-so _ _ cs (λ c i. enter-kept (bucket q id) r (c .row) chains (bucket q (c .id)) b i) (s .stands),
       );
       apart = put-distinct put unchained (s .apart);
       nobody = put-all _ put (inl refl) (all-so _ _ (concat chains) (λ z i. inr i) (s .nobody));

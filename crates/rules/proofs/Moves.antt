@@ -13,8 +13,9 @@ use Rattle.rules.specs.Rows.{headOr, rest, In, NotIn}
 use Rattle.rules.specs.History as history
 use Rattle.rules.specs.History.{Request, request, changed}
 use Rattle.rules.specs.Picture.{Item, Client, Picture, item, client, itemRow, clientRow, clientId, clientRows, countOf, idOf, rowOf, requestOf, plain}
-use Rattle.rules.specs.Steps.{withoutItem, admit, known, joinAs, join, leave}
+use Rattle.rules.specs.Steps.{withoutItem, admit, known, joinAs, join, dropItem, release, leave}
 use Rattle.rules.specs.Sound.{Right}
+use Rattle.rules.proofs.Choose.{either-way}
 use Rattle.rules.proofs.Put.{Put, here, put-map, put-last, take-all, take-distinct, take-rising, take-out}
 use Rattle.rules.proofs.Rows.{other, apart-right, head-rest, without-absent, map-snoc, all-so}
 use Rattle.rules.proofs.Look.{find, look-same}
@@ -96,7 +97,13 @@ join-step P id ticket v h = go (known id P) refl
         let n = has-not id (map clientId (P .clients)) e in
         rw (eq-eqb id id refl) (step-so (new-plain P id v n (room P v h) ticket) (join-near (admit id P) ticket (near-new P id v n (room P v h)) h))
 
--- a request leaves
+-- a request leaves, and its row is the first free one
+pub leave-frees : (P : Picture) (i : Item) → leave P i .freeItems ≡ i .row ∷ P .freeItems
+unfolding leave
+leave-frees P i =
+    either-way (λ J. J .freeItems ≡ i .row ∷ P .freeItems) (eqb (countOf (dropItem i P .window) (i .client)) 0)
+    {x = release (i .client) (dropItem i P)} {y = dropItem i P} refl refl
+
 pub leave-step : (P : Picture) (i : Item) (v : List Item) → Right P → Put i v (P .window)
     → Step (P .size) (changed (idOf (P .clients) (i .client)) (map (requestOf (P .clients)) v) (plain P)) (leave P i)
 unfolding leave

@@ -39,7 +39,7 @@ module _ (cs : List Client) (d : Distinct (map clientId cs)) where
         | no n ↦ rw (ne-eqb (x .client) r n) (count-plain r i w (a .1))
       ])
 
-  clients-plain : (w : List Item) → Distinct (map clientRow cs) → All (λ i. In (i .client) (map clientRow cs)) w
+  pub clients-plain : (w : List Item) → Distinct (map clientRow cs) → All (λ i. In (i .client) (map clientRow cs)) w
       → All (λ c. history.count (c .id) (map (requestOf cs) w) ≡ countOf w (c .row)) cs
   clients-plain w e a =
       all-puts _ cs (λ c xs p. ap (λ (z : ℕ). history.count z (map (requestOf cs) w)) (sym (look-same clientRow clientId p (take-distinct (put-map clientRow p) e .0)))
