@@ -13,8 +13,8 @@ use Rattle.rules.specs.Spread.{bucket}
 use Rattle.rules.specs.Picture.{Client, Picture, client, clientRow, clientId, itemRows, clientRows, countOf, concat}
 use Rattle.rules.specs.Steps.{enter}
 use Rattle.rules.specs.Sound.{Right}
-use Rattle.rules.proofs.Put.{Put, here, put-map, put-first, put-second, put-all, take-all, put-in, take-in, put-distinct, take-distinct, put-once, without-put}
-use Rattle.rules.proofs.Rows.{not-both, notin, in-or-not, in-either, other, notin-left, notin-right, distinct-left, distinct-right, apart-right, without-in, without-absent, all-so, all-both, all-in, in-all, notin-all}
+use Rattle.rules.proofs.Put.{Put, here, put-map, put-first, put-second, put-all, take-all, put-in, take-in, put-distinct, take-distinct, put-fresh, put-once, without-put}
+use Rattle.rules.proofs.Rows.{not-both, notin, in-or-not, in-either, other, notin-left, notin-right, distinct-left, distinct-right, apart-right, meets, without-in, without-absent, all-so, all-both, all-in, in-all, notin-all}
 use Rattle.rules.proofs.Columns.{in-concat}
 
 -- a row enters in front of its chain, and the other chains stay
@@ -147,7 +147,7 @@ module _ {q : ℕ} {cs : List Client} {free : List ℕ} {chains : List (List ℕ
         ids = take-distinct (put-map clientId p) (s .ids) .1;
         buckets = length-map chains (without (c .row)) ∙ s .buckets;
         stands = all-both _ _ _ xs (λ x i n. leave-kept (c .row) (x .row) (bucket q (x .id)) chains (λ e. n (sym e)) i) (stands .1)
-            (notin-all clientRow (c .row) xs (take-distinct (put-map clientRow p) rows-distinct .0));
+            (notin-all clientRow (c .row) xs (put-fresh clientRow p rows-distinct));
         apart = apart .1;
         nobody = in-all _ rest (λ r i. others r (all-in _ (concat chains) (s .nobody) r (put-in r left (inr i))) (other (c .row) r rest (apart .0) i));
       }
@@ -156,7 +156,7 @@ module _ {q : ℕ} {cs : List Client} {free : List ℕ} {chains : List (List ℕ
 pub standing-admitted : {q r id : ℕ} {cs : List Client} {free : List ℕ} {chains : List (List ℕ)} → Standing q cs (r ∷ free) chains → NotIn id (map clientId cs)
     → Standing q (client r id ∷ cs) free (enter (bucket q id) r chains)
 standing-admitted {q} {r} {id} {cs} {free} {chains} s n =
-    let out : NotIn r (map clientRow cs) = apart-right r (map clientRow cs) (r ∷ free) (s .rows .distinct) (inl refl) in
+    let out : NotIn r (map clientRow cs) = meets r (map clientRow cs) free (s .rows .distinct) in
     let unchained = notin r (concat chains) (λ i. not-both r (map clientRow cs) (all-in _ (concat chains) (s .nobody) r i) out) in
     let b : bucket q id < length chains = omega (arith, bucket-below q id (s .least), s .buckets) in
     let put = enter-put (bucket q id) r chains b in

@@ -17,7 +17,7 @@ use Rattle.rules.specs.History.{Request, heaviestClient, changed, evict,
 use Rattle.rules.specs.Picture.{Item, Client, Picture, item, clientRow, clientId, clientRows, ownRows, countOf, idOf, requestOf, plain}
 use Rattle.rules.specs.Steps.{leave, newestItem, frontItem}
 use Rattle.rules.specs.Sound.{Right}
-use Rattle.rules.proofs.Put.{Put, here, there, put-map, put-in, take-distinct}
+use Rattle.rules.proofs.Put.{Put, here, there, put-map, put-in}
 use Rattle.rules.proofs.Look.{look-same}
 use Rattle.rules.proofs.Right.{clients-distinct, counts-one}
 use Rattle.rules.proofs.Plain.{id-test, count-plain}
@@ -109,7 +109,7 @@ module _ (P : Picture) (v : Right P) (h : 1 ≤ length (P .window)) where
   heaviest-is =
       let l = last-of (P .clients) (some-client (P .clients) (P .window) (v .owners) h) in
       let row = l .is clientRow kind.none in
-      let name = look-same clientRow clientId (l .put) (take-distinct (put-map clientRow (l .put)) (clients-distinct P v) .0) in
+      let name = look-same clientRow clientId (l .put) (clients-distinct P v) in
       (put-in heaviest (put-map clientRow (l .put)) (inl row), ap (idOf (P .clients)) row ∙ name ∙ sym (l .is clientId 0))
 
   -- its newest item
