@@ -139,7 +139,8 @@ module _ {q : ℕ} {cs : List Client} {free : List ℕ} {chains : List (List ℕ
       let left = leave-put (c .row) chains (s .apart) (in-concat chains (bucket q (c .id)) (c .row) (stands .0)) in
       let apart = take-distinct left (s .apart) in
       let rest : List ℕ = concat (map (without (c .row)) chains) in
-      let others : (r : ℕ) → In r (map clientRow cs) → (c .row ≡ r → ⊥) → In r (map clientRow xs) = λ r i n. ⊎-elim (λ e. absurd (n (sym e))) (λ j. j) (take-in r (put-map clientRow p) i) in
+      let others : (r : ℕ) → In r (map clientRow cs) → (c .row ≡ r → ⊥) → In r (map clientRow xs) =
+      λ r i n. ⊎-elim (λ e. absurd (n (sym e))) (λ j. j) (take-in r (put-map clientRow p) i) in
       record {
         least = s .least;
         most = s .most;
