@@ -14,15 +14,24 @@ use Rattle.table.specs.Kind as kind
 use Rattle.rules.specs.Rows.{lastOr, In, All, Distinct}
 use Rattle.rules.specs.History as history
 use Rattle.rules.specs.History.{Request, heaviestClient, changed, evict, front, left, dropFront}
-use Rattle.rules.specs.Picture.{Item, Client, Picture, item, clientRow, clientId, clientRows, countOf, idOf, requestOf, plain}
+use Rattle.rules.specs.Picture.{Item, Client, Picture, item, clientRow, clientId, clientRows, ownRows, countOf, idOf, requestOf, plain}
 use Rattle.rules.specs.Steps.{leave, newestItem, frontItem}
 use Rattle.rules.specs.Sound.{Right}
-use Rattle.rules.proofs.Put.{Put, here, there, put-map, put-in, take-distinct}
+use Rattle.rules.proofs.Put.{Put, here, there, put-map, put-in}
 use Rattle.rules.proofs.Look.{look-same}
 use Rattle.rules.proofs.Right.{clients-distinct, counts-one}
 use Rattle.rules.proofs.Plain.{id-test, count-plain}
 use Rattle.rules.proofs.Settle.{Step, step-so, none-own}
 use Rattle.rules.proofs.Moves.{leave-step}
+
+-- the newest item of a client is in the last of its own rows
+pub newest-row : (c : ℕ) (d : Item) (w : List Item) → newestItem c d w .row ≡ lastOr (d .row) (ownRows c w)
+newest-row c d [] = refl
+newest-row c d (x ∷ w) = newest-row c (cond (eqb (x .client) c) x d) w ∙ go (eqb (x .client) c) (ownRows c w)
+  where
+    go : (b : Bool) (o : List ℕ) → lastOr (cond b x d .row) o ≡ lastOr (d .row) (cond b (x .row ∷ o) o)
+    go true o = refl
+    go false o = refl
 
 -- i is the newest item of the client in row c, by row and by id
 pub record Newest (cs : List Client) (c : ℕ) (w : List Item) (i : Item) : Type 0 where
@@ -96,11 +105,11 @@ module _ (P : Picture) (v : Right P) (h : 1 ≤ length (P .window)) where
   abbrev heaviest : ℕ
   heaviest = lastOr kind.none (clientRows P)
 
-  heaviest-is : In heaviest (clientRows P) × (idOf (P .clients) heaviest ≡ heaviestClient (plain P))
+  pub heaviest-is : In heaviest (clientRows P) × (idOf (P .clients) heaviest ≡ heaviestClient (plain P))
   heaviest-is =
       let l = last-of (P .clients) (some-client (P .clients) (P .window) (v .owners) h) in
       let row = l .is clientRow kind.none in
-      let name = look-same clientRow clientId (l .put) (take-distinct (put-map clientRow (l .put)) (clients-distinct P v) .0) in
+      let name = look-same clientRow clientId (l .put) (clients-distinct P v) in
       (put-in heaviest (put-map clientRow (l .put)) (inl row), ap (idOf (P .clients)) row ∙ name ∙ sym (l .is clientId 0))
 
   -- its newest item

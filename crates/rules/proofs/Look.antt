@@ -10,7 +10,7 @@ use borrow.Author.Tests.{eq-eqb, ne-eqb}
 use Rattle.rules.specs.Rows.{headOr, In, NotIn, All, Distinct}
 use Rattle.rules.specs.Picture.{Item, itemRow, ownRows, countOf, look}
 use Rattle.rules.specs.Draw.{ownerOf}
-use Rattle.rules.proofs.Put.{Put, here, there, put-map, put-in, take-all, all-puts, take-distinct}
+use Rattle.rules.proofs.Put.{Put, here, there, put-map, put-in, take-all, all-puts, put-there, put-fresh}
 use Rattle.rules.proofs.Rows.{other, not-both, notin, head-some}
 
 -- the one of a key that is there, and what is looked up by it
@@ -46,8 +46,8 @@ put-look key value {c} r (there {x = x} p) n =
       | no m ↦ rw (ne-eqb (key x) r m) (put-look key value r p (n .1))
     ]
 
-pub look-same : {A : Type 0} (key value : A → ℕ) {c : A} {xs ys : List A} → Put c xs ys → NotIn (key c) (map key xs) → look key value ys (key c) ≡ value c
-look-same key value {c} p n = put-look key value (key c) p n ∙ rw (eq-eqb (key c) (key c) refl)
+pub look-same : {A : Type 0} (key value : A → ℕ) {c : A} {xs ys : List A} → Put c xs ys → Distinct (map key ys) → look key value ys (key c) ≡ value c
+look-same key value {c} p d = put-look key value (key c) p (put-fresh key p d) ∙ rw (eq-eqb (key c) (key c) refl)
 
 -- a column that has each one's value is `look`, and the other way
 pub look-in : {A : Type 0} (key value : A → ℕ) (o : ℕ → ℕ) (xs : List A) → All (λ x. o (key x) ≡ value x) xs → (r : ℕ) → In r (map key xs) → o r ≡ look key value xs r
@@ -58,13 +58,13 @@ pub look-all : {A : Type 0} (key value : A → ℕ) (o : ℕ → ℕ) (xs : List
     → All (λ x. o (key x) ≡ value x) xs
 look-all key value o xs d h =
     all-puts (λ x. o (key x) ≡ value x) xs
-    (λ x ys p. h (key x) (put-in (key x) (put-map key p) (inl refl)) ∙ look-same key value p (take-distinct (put-map key p) d .0))
+    (λ x ys p. h (key x) (put-there key p) ∙ look-same key value p d)
 
 -- looked up there and back
 pub look-back : {A : Type 0} (key value : A → ℕ) (xs : List A) → Distinct (map value xs) → (r : ℕ) → In r (map key xs) → look value key xs (look key value xs r) ≡ r
 look-back key value xs d r i =
     let f = find key r xs i in
-    rw (f .look value) (look-same value key (f .put) (take-distinct (put-map value (f .put)) d .0) ∙ f .is)
+    rw (f .look value) (look-same value key (f .put) d ∙ f .is)
 
 -- a client's own rows, with one item more or less
 
@@ -123,7 +123,7 @@ own-of r w i =
 pub owner-own : (c r : ℕ) (w : List Item) → Distinct (map itemRow w) → In r (ownRows c w) → ownerOf w r ≡ c
 owner-own c r w d i =
     let o = own-item c r w i in
-    ap (ownerOf w) (sym (o .row)) ∙ look-same itemRow (λ i. i .client) (o .put) (take-distinct (put-map itemRow (o .put)) d .0) ∙ o .client
+    ap (ownerOf w) (sym (o .row)) ∙ look-same itemRow (λ i. i .client) (o .put) d ∙ o .client
 
 -- a row that owns nothing, and one that owns something
 pub own-none : (c : ℕ) (os : List ℕ) (w : List Item) → All (λ i. In (i .client) os) w → NotIn c os → ownRows c w ≡ []

@@ -2,7 +2,7 @@
 use mathlib.Core.List.{List, [], _∷_, _++_, map}
 use mathlib.Core.Bool.{Bool, true, false, cond}
 use mathlib.Core.Path.{_≡_, refl, sym, ap, ap₂, _∙_}
-use mathlib.Core.Logic.{inl, inr}
+use mathlib.Core.Logic.{inr}
 use Prim.Native.Nat.{ℕ, _≤_}
 use native.Mathlib.Omega.{arith}
 use lib.Dec.{eqb}
@@ -13,10 +13,11 @@ use Rattle.rules.specs.Rows.{headOr, rest, In, NotIn}
 use Rattle.rules.specs.History as history
 use Rattle.rules.specs.History.{Request, request, changed}
 use Rattle.rules.specs.Picture.{Item, Client, Picture, item, client, itemRow, clientRow, clientId, clientRows, countOf, idOf, rowOf, requestOf, plain}
-use Rattle.rules.specs.Steps.{withoutItem, admit, known, joinAs, join, leave}
+use Rattle.rules.specs.Steps.{withoutItem, admit, known, joinAs, join, dropItem, release, leave}
 use Rattle.rules.specs.Sound.{Right}
-use Rattle.rules.proofs.Put.{Put, here, put-map, put-last, take-all, take-distinct, take-rising, take-out}
-use Rattle.rules.proofs.Rows.{other, apart-right, head-rest, without-absent, map-snoc, all-so}
+use Rattle.rules.proofs.Choose.{either-way}
+use Rattle.rules.proofs.Put.{Put, here, put-map, put-last, take-all, take-rising, take-out}
+use Rattle.rules.proofs.Rows.{other, meets, head-rest, without-absent, map-snoc, all-so}
 use Rattle.rules.proofs.Look.{find, look-same}
 use Rattle.rules.proofs.Decide.{has-decides, has-not}
 use Rattle.rules.proofs.Right.{items-distinct, room}
@@ -56,7 +57,7 @@ module _ (P : Picture) (id : ℕ) (v : Right P) (n : NotIn id (map clientId (P .
   -- of which the plain history knows nothing yet
   requests-kept : plain (admit id P) .window ≡ plain P .window
   requests-kept =
-      let out = apart-right r (clientRows P) (r ∷ rest (P .freeClients)) (free .rows .distinct) (inl refl) in
+      let out = meets r (clientRows P) (rest (P .freeClients)) (free .rows .distinct) in
       requests-so (client r id ∷ P .clients) (P .clients) (P .window)
       (all-so _ _ (P .window) (λ i j. rw (ne-eqb r (i .client) (other r (i .client) (clientRows P) out j))) (v .owners))
 
@@ -78,7 +79,7 @@ join-near P {c} {xs} ticket n h =
     let s = near-settled (near-joined n r ticket (rest (P .freeItems)) (head-rest kind.none (P .freeItems) h)) in
     let n′ : ℕ = countOf (P .window ++ i ∷ []) (c .row) in
     let some : eqb n′ 0 ≡ false = ne-eqb n′ 0 (λ z. omega (arith, count-more (put-last i (P .window)), z)) in
-    let name = look-same clientRow clientId (n .put) (take-distinct (put-map clientRow (n .put)) (rows-distinct (n .standing)) .0) in
+    let name = look-same clientRow clientId (n .put) (rows-distinct (n .standing)) in
     let window = map-snoc (requestOf (P .clients)) (P .window) i ∙ ap (λ (z : ℕ). plain P .window ++ (request z ticket ∷ [])) name in
     step-so (ap (λ (l : List Request). changed (c .id) l (plain P)) window) (rw some (rw some at s))
 
@@ -96,12 +97,18 @@ join-step P id ticket v h = go (known id P) refl
         let n = has-not id (map clientId (P .clients)) e in
         rw (eq-eqb id id refl) (step-so (new-plain P id v n (room P v h) ticket) (join-near (admit id P) ticket (near-new P id v n (room P v h)) h))
 
--- a request leaves
+-- a request leaves, and its row is the first free one
+pub leave-frees : (P : Picture) (i : Item) → leave P i .freeItems ≡ i .row ∷ P .freeItems
+unfolding leave
+leave-frees P i =
+    either-way (λ J. J .freeItems ≡ i .row ∷ P .freeItems) (eqb (countOf (dropItem i P .window) (i .client)) 0)
+    {x = release (i .client) (dropItem i P)} {y = dropItem i P} refl refl
+
 pub leave-step : (P : Picture) (i : Item) (v : List Item) → Right P → Put i v (P .window)
     → Step (P .size) (changed (idOf (P .clients) (i .client)) (map (requestOf (P .clients)) v) (plain P)) (leave P i)
 unfolding leave
 leave-step P i v h p =
     let f = find clientRow (i .client) (P .clients) (take-all (λ i. In (i .client) (clientRows P)) p (h .owners) .0) in
     let c : f .one ≡ client (i .client) (idOf (P .clients) (i .client)) = ap₂ client (f .is) (sym (f .look clientId)) in
-    rw (take-out itemRow (withoutItem (i .row)) (λ x l. refl) p (take-distinct (put-map itemRow p) (items-distinct P h) .0))
+    rw (take-out itemRow (withoutItem (i .row)) (λ x l. refl) p (items-distinct P h))
     (near-settled (near-left (near P h (rw c at (f .put))) p refl))

@@ -1,7 +1,6 @@
 -- Rows and ids name the same clients: requests, counts and places by row are the plain history's by id.
 use mathlib.Core.List.{List, [], _∷_, map, map-id}
 use mathlib.Core.Path.{_≡_, refl, sym, ap, _∙_}
-use mathlib.Core.Logic.{inl}
 use Prim.Native.Nat.{ℕ, suc, _≤_}
 use native.Mathlib.Decide.{ℕ-discrete, decLe}
 use native.Mathlib.Omega.{arith}
@@ -11,7 +10,7 @@ use Rattle.rules.specs.Rows.{without, In, All, Distinct, Rising}
 use Rattle.rules.specs.History as history
 use Rattle.rules.specs.Picture.{Item, Client, clientRow, clientId, countOf, idOf, rowOf, requestOf}
 use Rattle.rules.specs.Steps.{withoutClient, place, moved}
-use Rattle.rules.proofs.Put.{Put, here, there, put-map, put-in, all-puts, take-all, take-distinct, take-out}
+use Rattle.rules.proofs.Put.{Put, here, there, put-map, put-there, all-puts, take-all, take-out}
 use Rattle.rules.proofs.Choose.{either-way, side-by-side}
 use Rattle.rules.proofs.Rows.{map-so, all-so}
 use Rattle.rules.proofs.Look.{look-same, look-back}
@@ -39,11 +38,11 @@ module _ (cs : List Client) (d : Distinct (map clientId cs)) where
         | no n ↦ rw (ne-eqb (x .client) r n) (count-plain r i w (a .1))
       ])
 
-  clients-plain : (w : List Item) → Distinct (map clientRow cs) → All (λ i. In (i .client) (map clientRow cs)) w
+  pub clients-plain : (w : List Item) → Distinct (map clientRow cs) → All (λ i. In (i .client) (map clientRow cs)) w
       → All (λ c. history.count (c .id) (map (requestOf cs) w) ≡ countOf w (c .row)) cs
   clients-plain w e a =
-      all-puts _ cs (λ c xs p. ap (λ (z : ℕ). history.count z (map (requestOf cs) w)) (sym (look-same clientRow clientId p (take-distinct (put-map clientRow p) e .0)))
-      ∙ count-plain (c .row) (put-in (c .row) (put-map clientRow p) (inl refl)) w a)
+      all-puts _ cs (λ c xs p. ap (λ (z : ℕ). history.count z (map (requestOf cs) w)) (sym (look-same clientRow clientId p e))
+      ∙ count-plain (c .row) (put-there clientRow p) w a)
 
 -- requests are read alike by two lists of clients that name the items' owners alike
 pub requests-so : (cs ds : List Client) (w : List Item) → All (λ i. idOf cs (i .client) ≡ idOf ds (i .client)) w → map (requestOf cs) w ≡ map (requestOf ds) w
@@ -72,11 +71,11 @@ place-rising n m c (x ∷ xs) h u =
 -- the client that moves taken out of the order
 module _ {c : Client} {xs cs : List Client} (p : Put c xs cs) where
   pub client-out : Distinct (map clientRow cs) → withoutClient (c .row) cs ≡ xs
-  client-out d = take-out clientRow (withoutClient (c .row)) (λ x l. refl) p (take-distinct (put-map clientRow p) d .0)
+  client-out d = take-out clientRow (withoutClient (c .row)) (λ x l. refl) p d
 
   id-out : Distinct (map clientId cs) → without (c .id) (map clientId cs) ≡ map clientId xs
   id-out d =
-      take-out (λ z. z) (without (c .id)) (λ x l. refl) (put-map clientId p) (rw map-id (take-distinct (put-map clientId p) d .0))
+      take-out (λ z. z) (without (c .id)) (λ x l. refl) (put-map clientId p) (rw map-id d)
 
   pub moved-plain : (w : List Item) → Distinct (map clientRow cs) → Distinct (map clientId cs) → All (λ i. In (i .client) (map clientRow cs)) w
       → map clientId (moved c w cs) ≡ history.moved (c .id) (map (requestOf cs) w) (map clientId cs)

@@ -2,7 +2,7 @@
 use mathlib.Core.List.{List, [], _∷_, _++_, map}
 use mathlib.Core.Bool.{Bool, true, false, cond}
 use mathlib.Core.Path.{_≡_, refl, sym, ap, _∙_}
-use mathlib.Core.Logic.{⊎-elim, inl}
+use mathlib.Core.Logic.{⊎-elim}
 use Prim.Native.Nat.{ℕ, suc}
 use native.Mathlib.Omega.{arith}
 use lib.Dec.{eqb}
@@ -13,7 +13,7 @@ use Rattle.rules.specs.History.{Waiting, changed}
 use Rattle.rules.specs.Picture.{Item, Client, Picture, item, itemRow, clientRow, clientId, itemRows, clientRows, countOf, idOf, requestOf, plain}
 use Rattle.rules.specs.Steps.{withoutClient, place, moved, release}
 use Rattle.rules.specs.Sound.{Right}
-use Rattle.rules.proofs.Put.{Put, here, put-map, put-first, put-second, put-last, put-all, take-all, all-puts, put-in, take-in, take-distinct, put-once, put-length}
+use Rattle.rules.proofs.Put.{Put, here, put-map, put-first, put-second, put-last, put-all, take-all, all-puts, put-in, take-in, put-there, put-fresh, put-once, put-length}
 use Rattle.rules.proofs.Rows.{other, all-so, all-both, in-all, map-so}
 use Rattle.rules.proofs.Look.{put-look, own-put, own-kept}
 use Rattle.rules.proofs.Clients.{Standing, rows-distinct, standing-moved, standing-released, standing-right}
@@ -65,7 +65,7 @@ none-own c w z = all-puts _ w (λ i v p e. omega (arith, put-length (own-put c p
 
 module _ {c : Client} {xs : List Client} {P : Picture} (n : Near c xs P) where
   fresh : NotIn (c .row) (map clientRow xs)
-  fresh = take-distinct (put-map clientRow (n .put)) (rows-distinct (n .standing)) .0
+  fresh = put-fresh clientRow (n .put) (rows-distinct (n .standing))
 
   -- an item of the client joins in the first free row
   pub near-joined : (r ticket : ℕ) (free : List ℕ) → P .freeItems ≡ r ∷ free → Near c xs (waiting (P .window ++ item r (c .row) ticket ∷ []) free P)
@@ -76,7 +76,7 @@ module _ {c : Client} {xs : List Client} {P : Picture} (n : Near c xs P) where
         standing = n .standing;
         put = n .put;
         items = put-once (P .size) (put-second (itemRows P) here) (put-first free (put-map itemRow p)) (rw e at (n .items));
-        owners = put-all (λ i. In (i .client) (clientRows P)) p (put-in (c .row) (put-map clientRow (n .put)) (inl refl)) (n .owners);
+        owners = put-all (λ i. In (i .client) (clientRows P)) p (put-there clientRow (n .put)) (n .owners);
         others = rw (counts-kept (map clientRow xs) p fresh) (n .others);
       }
 

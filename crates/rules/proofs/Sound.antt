@@ -61,9 +61,12 @@ module _ (t : List ℕ) (e : sound t ≡ true) where
   pub sound-drawn : t ≡ draw (picture t)
   sound-drawn = sound-both .1
 
-  pub sound-shows : Shows t (picture t)
+  pub sound-words : t ≡ words (picture t .size) (drawn (picture t))
   unfolding draw
-  sound-shows = record { regs = drawn (picture t); drawn = sound-drawn; holds = drawn-holds (picture t) sound-right }
+  sound-words = sound-drawn
+
+  pub sound-shows : Shows t (picture t)
+  sound-shows = record { regs = drawn (picture t); drawn = sound-words; holds = drawn-holds (picture t) sound-right }
 
 -- and the clauses
 pub sound-clauses : (t : List ℕ) → sound t ≡ true → Sound t

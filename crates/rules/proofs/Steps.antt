@@ -9,21 +9,18 @@ use lib.ListN.{length, length-map}
 use borrow.Author.Tests.{leb-true, leb-false, eqb-true, eqb-false}
 use Rattle.rules.specs.History as history
 use Rattle.rules.specs.History.{Request, Waiting, Choice, request, joined, evicted, turned, count, newest, heaviestClient, largestCount, full, turnedAway, choice, settle, arrive, slide, serve, dropFront}
-use Rattle.rules.specs.Picture.{Item, Picture, countOf, requestOf, plain}
-use Rattle.rules.specs.Steps.{join, dropItem, release, leave, frontItem, arrivedAs, arrived, slid, served}
+use Rattle.rules.specs.Picture.{Item, Picture, requestOf, plain}
+use Rattle.rules.specs.Steps.{join, leave, frontItem, arrivedAs, arrived, slid, served}
 use Rattle.rules.specs.Sound.{Right}
 use Rattle.rules.proofs.Choose.{either-way}
 use Rattle.rules.proofs.Right.{places}
 use Rattle.rules.proofs.Settle.{Step, step-so}
-use Rattle.rules.proofs.Moves.{join-step}
+use Rattle.rules.proofs.Moves.{join-step, leave-frees}
 use Rattle.rules.proofs.Leaving.{evict-step, front-step}
 
 -- after one has left there is room
 left-room : (P : Picture) (i : Item) → 1 ≤ length (leave P i .freeItems)
-unfolding leave
-left-room P i =
-    either-way (λ J. 1 ≤ length (J .freeItems)) (eqb (countOf (dropItem i P .window) (i .client)) 0)
-    {x = release (i .client) (dropItem i P)} {y = dropItem i P} (omega arith) (omega arith)
+left-room P i = rw (leave-frees P i) (omega arith)
 
 -- a step, and then a request joins
 then-join : {q : ℕ} {s : Waiting} {J : Picture} (id ticket : ℕ) → Step q s J → 1 ≤ length (J .freeItems)
@@ -40,14 +37,14 @@ nobody-leaves f s [] e = refl
 nobody-leaves f s (i ∷ w) e = absurd (omega (arith, e))
 
 module _ (P : Picture) (v : Right P) where
-  abbrev isFull : Bool
+  abbrev pub isFull : Bool
   isFull = full (P .size) (plain P)
 
   -- full, somebody waits; else there is room
-  full-waits : isFull ≡ true → 1 ≤ length (P .window)
+  pub full-waits : isFull ≡ true → 1 ≤ length (P .window)
   full-waits e = omega (arith, leb-true (P .size) (length (plain P .window)) e, length-map (P .window) (requestOf (P .clients)), v .least)
 
-  open-room : isFull ≡ false → 1 ≤ length (P .freeItems)
+  pub open-room : isFull ≡ false → 1 ≤ length (P .freeItems)
   open-room e = omega (arith, leb-false (P .size) (length (plain P .window)) e, length-map (P .window) (requestOf (P .clients)), places P v)
 
   -- what each choice of an arrival needs, and that it has it
