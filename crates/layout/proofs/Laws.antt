@@ -6,7 +6,7 @@ use Prim.Native.Nat.{ℕ, zero, suc, _+_, _*_, _-_, _≤_, _<_}
 use native.Mathlib.Nat.{mul-zero, mul-suc, add-comm, zero-add, not-suc-le-zero}
 use native.Mathlib.Omega.{arith}
 use lib.Dec.{eqb, ltb, lit<}
-use lib.ListN.{length, set, replicate, take, drop, getD, length-replicate, length-append, length-drop, replicate-append-replicate}
+use lib.ListN.{length, set, replicate, take, drop, getD, length-replicate, getD-replicate, length-append, length-drop, replicate-append-replicate}
 use lib.Seq.{drop-length, length-take-le, take-length, take-at, drop-at}
 use borrow.Author.Fill.{fill-more}
 use borrow.Rule.Slice.PartMut.{midOf, postOf, putMid}
@@ -18,7 +18,7 @@ use Rattle.table.proofs.Draw.{set-item, set-client}
 use Rattle.table.proofs.Whole.{Agree, agree-words}
 use Rattle.table.proofs.Write.{then, write-header}
 use Rattle.rules.specs.Rows.{headOr}
-use Rattle.rules.specs.Steps.{empty, count-up, times}
+use Rattle.rules.specs.Steps.{empty, count-up}
 use Rattle.rules.specs.Draw.{after, afterIn, drawn, draw}
 use Rattle.layout.specs.Laid.{blank, nextFree, chained, headed}
 
@@ -151,12 +151,7 @@ after-up (suc n) from r h k = go (eqb from r) refl (after-up n (suc from) r)
         let s : suc from + n ≡ from + suc n = omega arith in
         rw s at (f (omega (arith, eqb-false from r e)) (omega arith))
 
-empty-chain : (n b : ℕ) → getD (times {A = List ℕ} n []) b [] ≡ []
-empty-chain zero b = refl
-empty-chain (suc n) zero = refl
-empty-chain (suc n) (suc b) = empty-chain n b
-
-no-next : (n r : ℕ) → 0 ≡ afterIn (times n []) r
+no-next : (n r : ℕ) → 0 ≡ afterIn (replicate n []) r
 no-next zero r = refl
 no-next (suc n) r = no-next n r
 
@@ -174,5 +169,5 @@ laid (suc n) h =
       item = λ r f l. item-fields (λ f. L .item r f ≡ D .item r f) refl refl refl (link r l) refl refl f;
       client = λ r f l. client-fields (λ f. L .client r f ≡ D .client r f) refl refl refl (link r l) refl refl (no-next q r) f;
       count = λ r f l. count-fields (λ f. L .count r f ≡ D .count r f) refl refl f;
-      bucket = λ b l. ap (headOr kind.none) (sym (empty-chain q b));
+      bucket = λ b l. ap (headOr kind.none) (sym (getD-replicate q b [] [] l));
     })
