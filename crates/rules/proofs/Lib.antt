@@ -20,4 +20,5 @@ pub mod Leaving
 pub mod Steps
 pub mod Moved
 pub mod Written
+pub mod Ready
 pub mod Cases

@@ -9,5 +9,6 @@ pub mod Draw
 pub mod Linked
 pub mod Sound
 pub mod Parts
+pub mod Ready
 pub mod Verdict
 pub mod Cases
