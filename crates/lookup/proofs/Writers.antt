@@ -13,7 +13,7 @@ use Rattle.rules.specs.Linked.{Link}
 use Rattle.rules.specs.Spread.{bucket}
 use Rattle.rules.specs.Draw.{before}
 use Rattle.rules.specs.Sound.{follow}
-use Rattle.lookup.specs.Book.{book, bookOf, enterAt, enterRow, hook, leaveAt, leaveFrom, leaveRow}
+use Rattle.lookup.specs.Book.{book, from, enterAt, enterRow, hook, leaveAt, leaveFrom, leaveRow}
 use Rattle.lookup.specs.Laws.Chains.{follow-agree}
 
 -- the hook at an end, and at a row
@@ -50,9 +50,9 @@ module _ {q : ℕ} {t : List ℕ} {r x b h : ℕ} (hr : r < q) (ex : x ≡ clien
   enter-writes u v =
       so-read (then u v) (λ R d. ap (λ (m : ℕ). setBucket b r (setClient r kind.nextInBucket m R)) (first R d) ∙ ap (λ (m : ℕ). enterAt m r R) (home R d))
 
-  pub leave-writes : {c : List ℕ} {e : ℕ} → e ≡ before 0 kind.none (follow q (bookOf q t .next) q h) r → Writes q t c (leaveAt b e r) 2 → Writes q t c (leaveRow q r) 2
+  pub leave-writes : {c : List ℕ} {e : ℕ} → e ≡ before 0 kind.none (from q t h) r → Writes q t c (leaveAt b e r) 2 → Writes q t c (leaveRow q r) 2
   leave-writes ee u =
       so-read u
       (λ R d.
-      let rows : follow q (bookOf q t .next) q h ≡ follow q (book R .next) q (R .bucket b) = follow-agree q _ (book R .next) q h (λ s l. read-client q R s kind.nextInBucket d l (lit< tt)) ∙ ap (follow q (book R .next) q) (first R d) in
+      let rows : from q t h ≡ follow q (book R .next) q (R .bucket b) = follow-agree q _ (book R .next) q h (λ s l. read-client q R s kind.nextInBucket d l (lit< tt)) ∙ ap (follow q (book R .next) q) (first R d) in
       ap (λ (m : ℕ). leaveAt b m r R) (ee ∙ ap (λ (xs : List ℕ). before 0 kind.none xs r) rows) ∙ ap (λ (m : ℕ). leaveFrom q m r R) (home R d))

@@ -1,5 +1,5 @@
 -- The lookup by id: the columns that it reads, the clients in the chains of the buckets, and what find, enter and leave do.
-use mathlib.Core.List.{List, [], _∷_}
+use mathlib.Core.List.{List, _∷_}
 use mathlib.Core.Bool.{cond}
 use mathlib.Core.Path.{_≡_}
 use Prim.Native.Nat.{ℕ, _<_}
@@ -29,6 +29,9 @@ bookOf q t = book (regions q t)
 abbrev pub idOf : ℕ → List ℕ → ℕ → ℕ
 idOf q t = bookOf q t .id
 
+abbrev pub nextOf : ℕ → List ℕ → ℕ → ℕ
+nextOf q t = bookOf q t .next
+
 -- the id of a row altered
 abbrev pub withId : ℕ → ℕ → Book → Book
 withId r v B = record { id = at (B .id) r v; next = B .next; head = B .head }
@@ -36,6 +39,10 @@ withId r v B = record { id = at (B .id) r v; next = B .next; head = B .head }
 -- the chain of a bucket, as far as the words show rows
 abbrev pub chain : ℕ → Book → ℕ → List ℕ
 chain q B b = follow q (B .next) q (B .head b)
+
+-- the rows of a table from a pointer on
+abbrev pub from : ℕ → List ℕ → ℕ → List ℕ
+from q t h = follow q (nextOf q t) q h
 
 -- the rows of q chains, one chain after the other
 abbrev pub rowsOf : ℕ → (ℕ → List ℕ) → List ℕ

@@ -3,7 +3,7 @@ use mathlib.Core.List.{List, [], _∷_}
 use mathlib.Core.Bool.{Bool, true}
 use mathlib.Core.Path.{_≡_, refl, sym, _∙_, subst}
 use mathlib.Core.Logic.{⊎-elim}
-use Prim.Native.Nat.{ℕ, _≤_, _<_}
+use Prim.Native.Nat.{ℕ, _<_}
 use native.Mathlib.Omega.{arith}
 use lib.Dec.{lit<}
 use lib.ListN.{length}
@@ -15,10 +15,9 @@ use Rattle.table.proofs.Write.{draws, read-client, read-bucket}
 use Rattle.rules.specs.Rows.{In, NotIn, Distinct, without}
 use Rattle.rules.specs.Linked.{Links, Linked, Chain}
 use Rattle.rules.specs.Spread.{bucket}
-use Rattle.rules.specs.Sound.{follow}
 use Rattle.rules.proofs.Rows.{Within, other, in-or-not}
-use Rattle.lookup.specs.Book.{Book, book, bookOf, idOf, chain, rowsOf, Filed, Ends, Reaches, Found, enterRow, leaveRow, put, cut, withId}
-use Rattle.lookup.specs.Check.{countOf, Waits, Tells, Counted}
+use Rattle.lookup.specs.Book.{Book, book, bookOf, idOf, nextOf, from, rowsOf, OwnIds, Filed, Ends, Reaches, Found, enterRow, leaveRow, put, cut, withId}
+use Rattle.lookup.specs.Check.{chainsOf, countOf, Waits, Tells, Counted}
 use Rattle.lookup.specs.Laws.Filing.{filed-members, filed-agree, filed-none, found-kept, chain-ends, chain-is, enter-filed, leave-filed}
 use Rattle.lookup.specs.Laws.Checking.{check-sound, check-complete}
 
@@ -32,14 +31,10 @@ pub record Kept (q : ℕ) (t : List ℕ) : Type 0 where
   pub chains : ℕ → List ℕ
   pub keeps : Keeps q t clients chains
 
--- the chains that the words show
-abbrev pub chainsOf : ℕ → List ℕ → ℕ → List ℕ
-chainsOf q t = chain q (bookOf q t)
-
 -- an answer that tells, of the n clients that wait, exactly whether the table keeps them
 pub record Checked (q : ℕ) (t : List ℕ) (n : ℕ) (ok : Bool) : Type 0 where
-  pub right : (cs : List ℕ) → Waits q (countOf q t) cs → length cs ≡ n → ok ≡ true → Keeps q t cs (chainsOf q t)
-  pub passes : (cs : List ℕ) (C : ℕ → List ℕ) → Waits q (countOf q t) cs → length cs ≡ n → Keeps q t cs C → ok ≡ true
+  pub right : (cs : List ℕ) → Waits q t cs → length cs ≡ n → ok ≡ true → Keeps q t cs (chainsOf q t)
+  pub passes : (cs : List ℕ) (C : ℕ → List ℕ) → Waits q t cs → length cs ≡ n → Keeps q t cs C → ok ≡ true
 
 -- the clients and their chains
 
@@ -47,7 +42,7 @@ module _ {q : ℕ} {t cs : List ℕ} {C : ℕ → List ℕ} (k : Keeps q t cs C)
   pub kept-below : (r : ℕ) → In r cs → r < q
   kept-below = k .filed .below
 
-  pub kept-ids : (r s : ℕ) → In r cs → In s cs → idOf q t r ≡ idOf q t s → r ≡ s
+  pub kept-ids : OwnIds (idOf q t) cs
   kept-ids = k .filed .ids
 
   pub kept-stands : (r : ℕ) → In r cs → In r (C (bucket q (idOf q t r)))
@@ -76,13 +71,13 @@ columns-kept F = record { filed = F }
 
 -- what find and leave rest on: h is the word that was read as the first row of bucket b
 module _ {q : ℕ} {t : List ℕ} {b h : ℕ} (z : Sized q t) (hb : b < q) (first : h ≡ bucketWord t q b) where
-  pub first-ends : Kept q t → Ends q (bookOf q t .next) h
+  pub first-ends : Kept q t → Ends q (nextOf q t) h
   first-ends K = rw first (chain-ends (omega (arith, z .small)) (K .keeps .filed) b hb)
 
-  pub first-found : {cs : List ℕ} {C : ℕ → List ℕ} {x r : ℕ} → Keeps q t cs C → b ≡ bucket q x → Found (idOf q t) (follow q (bookOf q t .next) q h) x r → Found (idOf q t) cs x r
+  pub first-found : {cs : List ℕ} {C : ℕ → List ℕ} {x r : ℕ} → Keeps q t cs C → b ≡ bucket q x → Found (idOf q t) (from q t h) x r → Found (idOf q t) cs x r
   first-found {x = x} {r} k home f = found-kept (omega (arith, z .small)) (k .filed) b hb x r home (rw first at f)
 
-  pub first-reaches : {x r : ℕ} → ((K : Kept q t) × In r (K .clients)) → x ≡ clientWord t q r kind.id → b ≡ bucket q x → Reaches q (bookOf q t .next) h r
+  pub first-reaches : {x r : ℕ} → ((K : Kept q t) × In r (K .clients)) → x ≡ clientWord t q r kind.id → b ≡ bucket q x → Reaches q (nextOf q t) h r
   first-reaches {x} {r} K id home =
       record { ends = first-ends (K .0); there = rw (first, chain-is (omega (arith, z .small)) (K .0 .keeps .filed) b hb, home, id) (K .0 .keeps .filed .stands r (K .1)) }
 
@@ -139,11 +134,11 @@ left-word r z w h = word-after z w r kind.nextInBucket h (lit< tt) ∙ rw (eq-eq
 -- the check
 
 -- the clients are known where they are linked, wait, and nobody else does
-pub waits-linked : {q : ℕ} {L : Links} {cs : List ℕ} (count : ℕ → ℕ) → Linked q L cs → ((r : ℕ) → In r cs → count r ≡ 0 → ⊥) → ((r : ℕ) → r < q → NotIn r cs → count r ≡ 0) → Waits q count cs
-waits-linked {cs = cs} count k some zero =
+pub waits-linked : {q : ℕ} {L : Links} {cs : List ℕ} (t : List ℕ) → Linked q L cs → ((r : ℕ) → In r cs → countOf q t r ≡ 0 → ⊥) → ((r : ℕ) → r < q → NotIn r cs → countOf q t r ≡ 0) → Waits q t cs
+waits-linked {cs = cs} t k some zero =
     record { distinct = k .distinct; below = k .below; counted = some; others = λ r l n. ⊎-elim (λ i. i) (λ m. absurd (n (zero r l m))) (in-or-not r cs) }
 
-pub checked : {q : ℕ} {t : List ℕ} {n : ℕ} {ok : Bool} → Sized q t → Tells (Counted q (bookOf q t) (countOf q t) n) ok → Checked q t n ok
+pub checked : {q : ℕ} {t : List ℕ} {n : ℕ} {ok : Bool} → Sized q t → Tells (Counted q t n) ok → Checked q t n ok
 checked z f =
     record {
       right = λ cs w l o. record { filed = check-sound (omega (arith, z .small)) w (rw l (f .yes o)) };

@@ -9,17 +9,16 @@ ghost use Rattle.rules.specs.Rows.{In};
 ghost use Rattle.rules.specs.Linked.{Link};
 ghost use Rattle.rules.specs.Spread.{IsSpread};
 ghost use Rattle.rules.specs.Draw.{before};
-ghost use Rattle.rules.specs.Sound.{follow};
-ghost use Rattle.lookup.specs.Book.{bookOf, idOf, OwnIds, Ends, Reaches, Found, enterRow, hook, leaveAt, leaveRow};
-ghost use Rattle.lookup.specs.Check.{countOf, Tells, Fits, Left};
+ghost use Rattle.lookup.specs.Book.{idOf, nextOf, from, OwnIds, Ends, Reaches, Found, enterRow, hook, leaveAt, leaveRow};
+ghost use Rattle.lookup.specs.Check.{Tells, Fits, Left};
 ghost use Rattle.lookup.specs.View.{Keeps, Kept, Checked};
 use table::LinkedTable;
 
 // The row with that id on a chain that ends, or none.
 fn seek(t: &[u32], q: usize, first: u32, id: u32) -> u32
     requires { ⌜ Sized q (now t) ⌝ }
-    requires { ⌜ Ends q (bookOf q (now t) .next) first ⌝ }
-    ensures { λ r. ⌜ Found (idOf q (now (t .entry))) (follow q (bookOf q (now (t .entry)) .next) q first) id r ⌝ }
+    requires { ⌜ Ends q (nextOf q (now t)) first ⌝ }
+    ensures { λ r. ⌜ Found (idOf q (now (t .entry))) (from q (now (t .entry)) first) id r ⌝ }
 {
     let mut at = first;
     while at != LinkedTable::NONE {
@@ -60,8 +59,8 @@ pub fn enter(t: &mut [u32], q: usize, s: &[u32; 1024], r: u32)
 // The row before r on a chain that ends and holds r, or none.
 fn behind(t: &[u32], q: usize, first: u32, r: u32) -> u32
     requires { ⌜ Sized q (now t) ⌝ }
-    requires { ⌜ Reaches q (bookOf q (now t) .next) first r ⌝ }
-    ensures { λ e. ⌜ e ≡ before 0 kind.none (follow q (bookOf q (now (t .entry)) .next) q first) r ⌝ }
+    requires { ⌜ Reaches q (nextOf q (now t)) first r ⌝ }
+    ensures { λ e. ⌜ e ≡ before 0 kind.none (from q (now (t .entry)) first) r ⌝ }
     ensures { λ e. ⌜ Link q e ⌝ }
 {
     let mut at = first;
@@ -120,7 +119,7 @@ pub fn leave(t: &mut [u32], q: usize, s: &[u32; 1024], r: u32)
 fn fits(t: &[u32], q: usize, s: &[u32; 1024], b: usize, r: u32) -> bool
     requires { ⌜ Sized q (now t) ⌝ }
     requires { ⌜ IsSpread (now s) ⌝ }
-    ensures { λ ok. ⌜ Tells (Fits q (bookOf q (now (t .entry))) (countOf q (now (t .entry))) b r) ok ⌝ }
+    ensures { λ ok. ⌜ Tells (Fits q (now (t .entry)) b r) ok ⌝ }
 {
     if r as usize >= q {
         return false;
@@ -136,7 +135,7 @@ fn fits(t: &[u32], q: usize, s: &[u32; 1024], b: usize, r: u32) -> bool
 fn room_after(t: &[u32], q: usize, s: &[u32; 1024], b: usize, first: u32, room: usize) -> usize
     requires { ⌜ Sized q (now t) ⌝ }
     requires { ⌜ IsSpread (now s) ⌝ }
-    ensures { λ r. ⌜ Left q (bookOf q (now (t .entry))) (countOf q (now (t .entry))) b first room r ⌝ }
+    ensures { λ r. ⌜ Left q (now (t .entry)) b first room r ⌝ }
 {
     let mut left = room;
     let mut at = first;
@@ -156,8 +155,8 @@ fn room_after(t: &[u32], q: usize, s: &[u32; 1024], b: usize, first: u32, room: 
 // Whether each row of a chain that ends has an id of its own: no row after it has it.
 fn own_ids(t: &[u32], q: usize, first: u32) -> bool
     requires { ⌜ Sized q (now t) ⌝ }
-    requires { ⌜ Ends q (bookOf q (now t) .next) first ⌝ }
-    ensures { λ ok. ⌜ Tells (OwnIds (idOf q (now (t .entry))) (follow q (bookOf q (now (t .entry)) .next) q first)) ok ⌝ }
+    requires { ⌜ Ends q (nextOf q (now t)) first ⌝ }
+    ensures { λ ok. ⌜ Tells (OwnIds (idOf q (now (t .entry))) (from q (now (t .entry)) first)) ok ⌝ }
 {
     let mut at = first;
     while at != LinkedTable::NONE {

@@ -1,3 +1,4 @@
+-- The chains so far are right and leave that room (`Checks`); the buckets that are left grow fewer.
 use borrow.Author.Needs.{needs}
 use Prim.Native.Nat.{_-_}
 use Rattle.lookup.proofs.Rooms.{Checks, checks-first, checks-end, checks-wrong, left-ends, checks-ids, checks-next}

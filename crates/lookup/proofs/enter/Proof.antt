@@ -1,3 +1,4 @@
+-- Two words, each as the regions have it.
 use borrow.Author.Needs.{needs}
 use Rattle.lookup.proofs.Writers.{enter-writes}
 use Rattle.lookup.proofs.enter.Statement.{statement}

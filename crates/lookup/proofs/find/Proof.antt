@@ -1,3 +1,4 @@
+-- The chain of the id's bucket ends, and holds the client of that id if there is one.
 use borrow.Author.Needs.{needs}
 use Rattle.lookup.specs.View.{first-ends, first-found}
 use Rattle.lookup.proofs.find.Statement.{statement}

@@ -1,3 +1,4 @@
+-- The three tests, one after the other.
 use borrow.Author.Needs.{needs}
 use Rattle.lookup.proofs.Rooms.{fits-out, fits-idle, fits-home}
 use Rattle.lookup.proofs.fits.Statement.{statement}

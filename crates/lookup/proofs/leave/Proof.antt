@@ -1,3 +1,4 @@
+-- The chain of the row's bucket reaches it; then the two words as the regions have them.
 use borrow.Author.Needs.{needs}
 use Rattle.lookup.specs.View.{first-reaches}
 use Rattle.lookup.proofs.Writers.{leave-writes}

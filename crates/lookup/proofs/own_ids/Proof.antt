@@ -1,6 +1,8 @@
+-- The ids of the rest are its own exactly where those of the whole are (`Owns`); the rows that are left grow fewer.
 use borrow.Author.Needs.{needs}
 use lib.ListN.{length}
-use Rattle.lookup.proofs.Walks.{from, row-low, row-less, row-ends, Owns, owns-first, owns-none, owns-next, owns-not}
+use Rattle.lookup.specs.Book.{from}
+use Rattle.lookup.proofs.Walks.{row-low, row-less, row-ends, Owns, owns-first, owns-none, owns-next, owns-not}
 use Rattle.lookup.proofs.own_ids.Statement.{statement}
 use Rattle.lookup.proofs.own_ids.Tie as tie
 

@@ -1,3 +1,4 @@
+-- What is left after the rest of the chain is left after the whole (`Rooms`); the room grows less.
 use borrow.Author.Needs.{needs}
 use Rattle.lookup.proofs.Rooms.{fits-low, Rooms, rooms-first, rooms-spent, rooms-none, rooms-wrong, rooms-next}
 use Rattle.lookup.proofs.room_after.Statement.{statement}

@@ -1,6 +1,8 @@
+-- What is found from a row on is found on the whole chain (`Seeks`); the rows that are left grow fewer.
 use borrow.Author.Needs.{needs}
 use lib.ListN.{length}
-use Rattle.lookup.proofs.Walks.{from, row-low, row-less, Seeks, seeks-first, seeks-none, seeks-here, seeks-next}
+use Rattle.lookup.specs.Book.{from}
+use Rattle.lookup.proofs.Walks.{row-low, row-less, Seeks, seeks-first, seeks-none, seeks-here, seeks-next}
 use Rattle.lookup.proofs.seek.Statement.{statement}
 use Rattle.lookup.proofs.seek.Tie as tie
 

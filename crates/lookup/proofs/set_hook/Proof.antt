@@ -1,3 +1,4 @@
+-- At none a bucket's word, else a row's: either way the hook.
 use borrow.Author.Needs.{needs}
 use Rattle.lookup.proofs.Writers.{link-row, hook-end, hook-row}
 use Rattle.lookup.proofs.set_hook.Statement.{statement}

@@ -1,3 +1,4 @@
+-- The hook, and then the row's own word.
 use borrow.Author.Needs.{needs}
 use Rattle.lookup.proofs.Writers.{unhook-writes}
 use Rattle.lookup.proofs.unhook.Statement.{statement}

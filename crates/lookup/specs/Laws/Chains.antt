@@ -15,7 +15,7 @@ use Rattle.table.proofs.Draw.{at-other}
 use Rattle.rules.specs.Rows.{In, NotIn, Distinct, Below}
 use Rattle.rules.specs.Linked.{Chain}
 use Rattle.rules.specs.Sound.{follow}
-use Rattle.rules.proofs.Rows.{not-both, notin, other, in-left, in-right, in-either, distinct-left, distinct-right, distinct-both, apart-right, below-right, at-most, split-at}
+use Rattle.rules.proofs.Rows.{not-both, notin, other, in-left, in-right, in-either, distinct-right, distinct-both, apart-right, below-right, at-most, split-at}
 use Rattle.lookup.specs.Book.{Ends, rowsOf}
 
 -- followed far enough, a chain gives its rows

@@ -16,7 +16,7 @@ use Rattle.rules.specs.Linked.{Chain}
 use Rattle.rules.specs.Spread.{bucket}
 use Rattle.rules.specs.Draw.{before}
 use Rattle.rules.proofs.Rows.{not-both, notin, other, in-or-not, below-in, past, in-without, notin-without, without-in, without-absent, gone, Within}
-use Rattle.lookup.specs.Book.{Book, book, chain, rowsOf, OwnIds, Filed, Ends, Found, enterRow, leaveAt, leaveFrom, leaveRow, put, cut}
+use Rattle.lookup.specs.Book.{Book, book, chain, rowsOf, OwnIds, Filed, Ends, Found, enterRow, leaveAt, leaveRow, put, cut}
 use Rattle.lookup.specs.Laws.Chains.{chain-agree, chain-frame, chain-once, follow-is, ends-by, rows-place, place-rows, place-once, rows-apart}
 
 pub bucket-below : (q x : ℕ) → 0 < q → bucket q x < q
@@ -37,6 +37,12 @@ module _ {q : ℕ} {B : Book} {cs : List ℕ} {C : ℕ → List ℕ} (F : Filed 
   pub below-chain : (b : ℕ) → b < q → Below q (C b)
   below-chain b h = below-in q (C b) (λ r i. F .below r (nobody-in b r h i))
 
+-- chains of rows whose own chain each is have no row in common
+pub apart-by : (q : ℕ) (B : Book) (C : ℕ → List ℕ) → q ≤ kind.none → ((b : ℕ) → b < q → Below q (C b)) → ((b : ℕ) → b < q → Chain (B .next) (B .head b) (C b))
+    → ((b r : ℕ) → b < q → In r (C b) → bucket q (B .id r) ≡ b) → Distinct (rowsOf q C)
+apart-by q B C hq below chained home =
+    rows-apart q C (λ b h. chain-once q hq (B .next) (B .head b) (C b) (below b h) (chained b h)) (λ r b d h g i j. sym (home b r h i) ∙ home d r g j)
+
 pub filed-by : {q : ℕ} {B : Book} {cs : List ℕ} {C : ℕ → List ℕ} → q ≤ kind.none
     → ((b : ℕ) → b < q → Chain (B .next) (B .head b) (C b))
     → ((r : ℕ) → In r cs → In r (C (bucket q (B .id r))))
@@ -47,8 +53,7 @@ filed-by {q} {B} {cs} {C} hq chained stands only ids below =
     record {
       chained = chained;
       stands = stands;
-      apart = rows-apart q C (λ b h. chain-once q hq (B .next) (B .head b) (C b) (below-in q (C b) (λ r i. below r (only b r h i .0))) (chained b h))
-          (λ r b d h g i j. sym (only b r h i .1) ∙ only d r g j .1);
+      apart = apart-by q B C hq (λ b h. below-in q (C b) (λ r i. below r (only b r h i .0))) chained (λ b r h i. only b r h i .1);
       nobody = λ r i. let p = rows-place q C r i in only (p .bucket) r (p .low) (p .there) .0;
       ids = ids;
       below = below;
@@ -95,6 +100,11 @@ filed-none q B h =
       ids = λ r s i. absurd i;
       below = λ r i. absurd i;
     }
+
+-- one more row with an id of its own
+pub own-more : (id : ℕ → ℕ) (x : ℕ) (xs : List ℕ) → ((s : ℕ) → In s xs → id s ≡ id x → ⊥) → OwnIds id xs → OwnIds id (x ∷ xs)
+own-more id x xs n u r s i j e =
+    ⊎-elim (λ k. ⊎-elim (λ l. k ∙ sym l) (λ l. absurd (n s l (sym e ∙ ap id k))) j) (λ k. ⊎-elim (λ l. absurd (n r k (e ∙ ap id l))) (λ l. u r s k l e) j) i
 
 -- find
 
@@ -164,7 +174,7 @@ module _ (q : ℕ) (R : Regions) (cs : List ℕ) (C : ℕ → List ℕ) (r : ℕ
       (enter-chain b)
       (λ x i. in-put b r C (bucket q (id x)) x (⊎-elim (λ e. inl (e, ap (λ (z : ℕ). bucket q (id z)) e)) (λ k. inr (F .stands x k)) i))
       (λ j x h i. ⊎-elim (λ e. (inl (e .0), rw (e .0) (sym (e .1)))) (λ k. (inr (nobody-in F j x h k), home-in F j x h k)) (put-in b r C j x i))
-      (λ x y i k e. ⊎-elim (λ xr. ⊎-elim (λ yr. xr ∙ sym yr) (λ yi. absurd (own y yi (sym e ∙ ap id xr))) k) (λ xi. ⊎-elim (λ yr. absurd (own x xi (e ∙ ap id yr))) (λ yi. F .ids x y xi yi e) k) i)
+      (own-more id r cs own (F .ids))
       (λ x i. ⊎-elim (λ e. rw e low) (F .below x) i)
 
 -- leave
