@@ -9,6 +9,7 @@ pub mod Right
 pub mod Held
 pub mod Shown
 pub mod Decide
+pub mod Tells
 pub mod Sound
 pub mod Empty
 pub mod Parts
