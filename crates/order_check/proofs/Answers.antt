@@ -1,0 +1,56 @@
+-- Answers that tell exactly, and loops that count down.
+use mathlib.Core.Bool.{Bool, true, false}
+use mathlib.Core.Path.{_≡_, refl, sym, _∙_, subst}
+use mathlib.Core.Logic.{_↔_}
+use Prim.Native.Nat.{ℕ, zero, suc, _-_, _≤_, _<_}
+use native.Mathlib.Omega.{arith}
+use lib.Dec.{eqb}
+use borrow.Author.Tests.{eqb-true, eq-eqb}
+use Rattle.table.proofs.Range.{no}
+use Rattle.table.specs.Kind as kind
+use Rattle.table.specs.Regions.{Regions}
+use Rattle.order_check.specs.Check.{Tells, Ended, Joins, Walk, Blank, Free}
+
+pub passed : {P : Type 0} → P → Tells true P
+passed p = record { right = λ e. p; passes = λ q. refl }
+
+pub refused : {P : Type 0} → (P → ⊥) → Tells false P
+refused h = record { right = λ e. absurd (no e); passes = λ p. absurd (h p) }
+
+-- what a refusal tells
+pub fails : {ok : Bool} {P : Type 0} → Tells ok P → ok ≡ false → P → ⊥
+fails a e p = no (sym e ∙ a .passes p)
+
+pub compared : (a b : ℕ) → Tells (eqb a b) (a ≡ b)
+compared a b = record { right = eqb-true a b; passes = eq-eqb a b }
+
+-- the same of what holds where P does
+pub instead : {ok : Bool} {P Q : Type 0} → (P ↔ Q) → Tells ok P → Tells ok Q
+instead i a = record { right = λ e. i .0 (a .right e); passes = λ q. a .passes (i .1 q) }
+
+-- what a loop that counts down asks of n more turns is P: at a turn, and at the end
+module _ (F : ℕ → Type 0) (P : Type 0) (n : ℕ) (so : F n ↔ P) where
+  turn : 0 < n → F (suc (n - 1)) ↔ P
+  turn h = let e : n ≡ suc (n - 1) = omega arith in subst (λ (k : ℕ). F k ↔ P) e so
+
+  stop : n ≤ 0 → F zero ↔ P
+  stop h = let e : n ≡ 0 = omega arith in subst (λ (k : ℕ). F k ↔ P) e so
+
+module _ (q : ℕ) (R : Regions) (n at prev floor : ℕ) (P : Type 0) (so : Walk q R n at prev floor ↔ P) where
+  pub walk-turn : 0 < n
+      → ((at < q) × Joins q R at (R .client at kind.count) prev floor × Walk q R (n - 1) (R .client at kind.heavier) at (R .client at kind.count)) ↔ P
+  walk-turn h = turn (λ k. Walk q R k at prev floor) P n so h
+
+  pub walk-end : n ≤ 0 → ((at ≡ kind.none) × (R .header kind.heaviestAt ≡ prev) × Ended R floor prev q) ↔ P
+  walk-end h = stop (λ k. Walk q R k at prev floor) P n so h
+
+module _ (q : ℕ) (R : Regions) (n at : ℕ) (P : Type 0) (so : Free q R n at ↔ P) where
+  pub free-turn : 0 < n → ((at < q) × Blank R at × Free q R (n - 1) (R .client at kind.heavier)) ↔ P
+  free-turn h = turn (λ k. Free q R k at) P n so h
+
+  pub free-end : n ≤ 0 → (at ≡ kind.none) ↔ P
+  free-end h = stop (λ k. Free q R k at) P n so h
+
+-- the first two parts hold, so the third is P
+pub left-over : {A B C P : Type 0} → ((A × B × C) ↔ P) → A → B → C ↔ P
+left-over i a b = (λ c. i .0 (a, b, c), λ p. i .1 p .2)

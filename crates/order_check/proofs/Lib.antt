@@ -1,0 +1,2 @@
+-- Laws of the check of the clients.
+pub mod Answers
