@@ -16,7 +16,7 @@ Bare R from to = (k : ℕ) → k < to → from ≤ k → (R .count k kind.lightE
 
 -- the group of this count, where it is not 0, ends with the row `prev`, and nobody has a count above it up to that of count row `to`
 pub record Ended (R : Regions) (count prev to : ℕ) : Type 0 where
-  pub last : (count ≡ 0 → ⊥) → R .count (count - 1) kind.heavyEnd ≡ prev
+  pub last : (k : ℕ) → suc k ≡ count → R .count k kind.heavyEnd ≡ prev
   pub bare : Bare R count to
 
 -- the row `at`, of this count, may follow the row `prev` of count `floor`, which is 0 before the first row:
@@ -26,8 +26,7 @@ pub record Joins (q : ℕ) (R : Regions) (at count prev floor : ℕ) : Type 0 wh
   pub least : 1 ≤ count
   pub rises : floor ≤ count
   pub most : count ≤ q
-  pub begins : (count ≡ floor → ⊥) → R .count (count - 1) kind.lightEnd ≡ at
-  pub ended : (count ≡ floor → ⊥) → Ended R floor prev (count - 1)
+  pub begins : (count ≡ floor → ⊥) → (k : ℕ) → suc k ≡ count → (R .count k kind.lightEnd ≡ at) × Ended R floor prev k
 
 -- n rows from `at` on join, and then the order ends
 abbrev pub Walk : ℕ → Regions → ℕ → ℕ → ℕ → ℕ → Type 0

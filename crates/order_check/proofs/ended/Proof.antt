@@ -1,5 +1,7 @@
 use mathlib.Core.Logic.{⊎-elim}
-use mathlib.Core.Path.{sym, _∙_}
+use mathlib.Core.Path.{_≡_, sym, _∙_}
+use Prim.Native.Nat.{_-_}
+use native.Mathlib.Omega.{arith}
 use Rattle.order_check.proofs.Answers.{refused, instead}
 use borrow.Author.Needs.{needs}
 use Rattle.order_check.proofs.ended.Statement.{statement}
@@ -19,7 +21,7 @@ count-end-requires c κs = search needs
 
 -- src/lib.rt:37:13
 returns : tie.Need-returns
-returns c = refused (λ e. c .if2 .taken (c .before .count-end .ensures ∙ e .last (c .before .before .if1 .taken)))
+returns c = refused (λ e. c .if2 .taken (c .before .count-end .ensures ∙ e .last _ (search needs)))
 
 -- src/lib.rt:40:5
 bare-requires : tie.Need-bare-requires
@@ -28,7 +30,10 @@ bare-requires c κs = search needs
 -- src/lib.rt:30:1
 returns-2 : tie.Need-returns-2
 returns-2 c = instead
-    (λ b. record { last = λ n. ⊎-elim (λ w. sym (w .1 .ensures) ∙ w .2 .left) (λ w. absurd (n (w .left))) (c .before .if1 .came); bare = b }, λ e. e .bare)
+    (λ b. record {
+      last = λ k h. ⊎-elim (λ w. let z : k ≡ c .before .before .before .args .count - 1 = omega arith in rw z (sym (w .1 .ensures) ∙ w .2 .left)) (λ w. absurd (omega (arith, w .left))) (c .before .if1 .came);
+      bare = b;
+    }, λ e. e .bare)
     (c .bare .ensures)
 
 pub ended-spec : {M : Type 1} → statement M

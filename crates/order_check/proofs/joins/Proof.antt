@@ -1,4 +1,5 @@
-use mathlib.Core.Path.{sym, _∙_}
+use mathlib.Core.Path.{_≡_, sym, _∙_}
+use Prim.Native.Nat.{_-_}
 use native.Mathlib.Omega.{arith}
 use Rattle.order_check.proofs.Answers.{refused, instead}
 use borrow.Author.Needs.{needs}
@@ -40,7 +41,7 @@ count-end-requires c κs = search needs
 
 -- src/lib.rt:66:9
 returns-6 : tie.Need-returns-6
-returns-6 c = refused (λ j. c .if6 .taken (c .before .count-end .ensures ∙ j .begins (c .before .before .if5 .left)))
+returns-6 c = refused (λ j. c .if6 .taken (c .before .count-end .ensures ∙ j .begins (c .before .before .if5 .left) _ (search needs) .0))
 
 -- src/lib.rt:68:5
 ended-requires : tie.Need-ended-requires
@@ -52,8 +53,9 @@ returns-7 c = let e = c .before .before in
     let n = e .before .if5 .left in
     let first = e .before .before .before .before .before in
     instead
-    (λ w. record { back = sym (first .before .client .ensures) ∙ first .if1 .left; least = search needs; rises = search needs; most = search needs; begins = λ m. sym (e .count-end .ensures) ∙ c .before .if6 .left; ended = λ m. w },
-    λ j. j .ended n)
+    (λ w. record { back = sym (first .before .client .ensures) ∙ first .if1 .left; least = search needs; rises = search needs; most = search needs;
+       begins = λ m k h. let z : k ≡ first .before .before .before .args .count - 1 = omega arith in rw z (sym (e .count-end .ensures) ∙ c .before .if6 .left, w) },
+    λ j. j .begins n _ (search needs) .1)
     (c .ended .ensures)
 
 pub joins-spec : {M : Type 1} → statement M

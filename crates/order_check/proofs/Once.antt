@@ -1,0 +1,44 @@
+-- Walks that keep no marks and yet meet no row twice: links that agree both ways from a none end, and a chain that ends.
+use mathlib.Core.List.{List, [], _∷_}
+use mathlib.Core.Path.{_≡_, refl, sym, ap, _∙_, subst}
+use mathlib.Core.Logic.{⊎-elim, inl, inr}
+use Prim.Native.Nat.{ℕ, suc, _≤_}
+use native.Mathlib.Omega.{arith}
+use lib.ListN.{length}
+use Rattle.table.specs.Kind as kind
+use Rattle.rules.specs.Rows.{In, NotIn, Distinct, Below}
+use Rattle.rules.specs.Linked.{Run, Chain}
+use Rattle.rules.proofs.Rows.{not-both, notin}
+
+module _ (b o : ℕ → ℕ) (n l : ℕ) where
+  -- the row before each row of a run is in it too, or is the one before them all
+  before : (p h : ℕ) (xs : List ℕ) (y : ℕ) → Run b o p h xs n l → In y xs → In (b y) (p ∷ xs)
+  before p h [] y r i = absurd i
+  before p h (x ∷ xs) y r i = ⊎-elim (λ e. inl (ap b e ∙ r .1)) (λ j. inr (before x (o x) xs y (r .2) j)) i
+
+  pub run-distinct : (p h : ℕ) (xs : List ℕ) → NotIn p xs → Run b o p h xs n l → Distinct xs
+  run-distinct p h [] f r = tt
+  run-distinct p h (x ∷ xs) f r =
+      let apart : NotIn x xs = notin x xs (λ i. not-both p (x ∷ xs) (subst (λ (z : ℕ). In z (x ∷ xs)) (r .1) (before x (o x) xs x (r .2) i)) f) in
+      (apart, run-distinct x (o x) xs apart (r .2))
+
+-- a chain is fixed by where it starts, so the chain from one of its rows on is no longer than it is
+module _ (q : ℕ) (small : q ≤ kind.largest) (o : ℕ → ℕ) where
+  as-long : (h : ℕ) (xs ys : List ℕ) → Chain o h xs → Chain o h ys → Below q xs → Below q ys → length xs ≡ length ys
+  as-long h [] [] a b c d = refl
+  as-long h [] (y ∷ ys) a b c d = absurd (omega (arith, a, b .0, d .0))
+  as-long h (x ∷ xs) [] a b c d = absurd (omega (arith, b, a .0, c .0))
+  as-long h (x ∷ xs) (y ∷ ys) a b c d =
+      ap suc (as-long (o x) xs ys (a .1) (subst (λ (z : ℕ). Chain o (o z) ys) (sym (b .0) ∙ a .0) (b .1)) (c .1) (d .1))
+
+  no-longer : (h : ℕ) (xs : List ℕ) (y : ℕ) (ys : List ℕ) → Chain o h xs → Chain o y ys → Below q xs → Below q ys → In y xs → length ys ≤ length xs
+  no-longer h [] y ys a b c d i = absurd i
+  no-longer h (x ∷ xs) y ys a b c d i =
+      ⊎-elim (λ e. omega (arith, as-long x (x ∷ xs) ys (refl, a .1) (subst (λ (z : ℕ). Chain o z ys) e b) c d))
+      (λ j. omega (arith, no-longer (o x) xs y ys (a .1) b (c .1) d j))
+      i
+
+  pub chain-distinct : (h : ℕ) (xs : List ℕ) → Chain o h xs → Below q xs → Distinct xs
+  chain-distinct h [] a b = tt
+  chain-distinct h (x ∷ xs) a b =
+      (notin x xs (λ i. omega (arith, no-longer (o x) xs x (x ∷ xs) (a .1) (refl, a .1) (b .1) b i)), chain-distinct (o x) xs (a .1) (b .1))
