@@ -1,11 +1,11 @@
 -- Answers that tell exactly, and loops that count down.
-use mathlib.Core.Bool.{Bool, true, false}
+use mathlib.Core.Bool.{Bool, true, false, not}
 use mathlib.Core.Path.{_≡_, refl, sym, _∙_, subst}
 use mathlib.Core.Logic.{_↔_}
 use Prim.Native.Nat.{ℕ, zero, suc, _-_, _≤_, _<_}
 use native.Mathlib.Omega.{arith}
 use lib.Dec.{eqb}
-use borrow.Author.Tests.{eqb-true, eq-eqb}
+use borrow.Author.Tests.{eqb-true, eq-eqb, not-true}
 use Rattle.table.proofs.Range.{no}
 use Rattle.table.specs.Kind as kind
 use Rattle.table.specs.Regions.{Regions}
@@ -17,14 +17,14 @@ passed p = record { right = λ e. p; passes = λ q. refl }
 pub refused : {P : Type 0} → (P → ⊥) → Tells false P
 refused h = record { right = λ e. absurd (no e); passes = λ p. absurd (h p) }
 
--- what a refusal tells
-pub fails : {ok : Bool} {P : Type 0} → Tells ok P → ok ≡ false → P → ⊥
-fails a e p = no (sym e ∙ a .passes p)
+-- a part of P was asked for, and is lacking
+pub lacks : (ok : Bool) {P : Type 0} → not ok ≡ true → (P → ok ≡ true) → Tells false P
+lacks ok e f = refused (λ p. no (sym (not-true ok e) ∙ f p))
 
 pub compared : (a b : ℕ) → Tells (eqb a b) (a ≡ b)
 compared a b = record { right = eqb-true a b; passes = eq-eqb a b }
 
--- the same of what holds where P does
+-- the same answer, of what holds exactly where P does
 pub instead : {ok : Bool} {P Q : Type 0} → (P ↔ Q) → Tells ok P → Tells ok Q
 instead i a = record { right = λ e. i .0 (a .right e); passes = λ q. a .passes (i .1 q) }
 

@@ -14,7 +14,7 @@ use Rattle.rules.specs.Parts.{Ordered}
 use Rattle.rules.proofs.Rows.{in-either, in-below, below-in, below-left, below-right, past, distinct-both, all-in, in-all}
 use Rattle.order_check.specs.Check.{Tells, Walk, Blank, Free, Passes}
 use Rattle.order_check.specs.Clients.{Clients, Checked}
-use Rattle.order_check.proofs.Once.{run-distinct, chain-distinct}
+use Rattle.order_check.proofs.Walks.{run-distinct, chain-distinct}
 use Rattle.order_check.proofs.Groups.{counts, rising-in, Ends, ends-back, begins, ends-on}
 
 -- from 1 up, and from a count up
@@ -67,13 +67,13 @@ module _ (q : ℕ) (R : Regions) where
         r .below .0,
         record { back = r .run .1; least = least; rises = rises; most = most; begins = begins q R prev floor x xs up rises most (r .ends) },
         rest-walk xs (order R .on x) x (counts R x)
-        (record {
-          run = r .run .2;
-          below = r .below .1;
-          rising = rw (least-is (counts R x) least) up;
-          most = r .most .1;
-          ends = ends-on q R prev floor x xs up rises most (r .ends);
-        }),
+            (record {
+              run = r .run .2;
+              below = r .below .1;
+              rising = rw (least-is (counts R x) least) up;
+              most = r .most .1;
+              ends = ends-on q R prev floor x xs up rises most (r .ends);
+            }),
       )
 
   -- these free rows from `at` on
@@ -104,7 +104,7 @@ module _ (q : ℕ) (R : Regions) where
       let s = free-spare (q - n) (R .header kind.freeClientAt) (p .idle) in
       let distinct : Distinct rows = run-distinct (order R .back) (order R .on) kind.none (order R .last) kind.none (order R .first) rows (past q kind.none rows (omega arith) (r .below)) (r .run) in
       let apart : (x : ℕ) → In x rows → In x free → ⊥ = λ x i j.
-          omega (arith, rising-in (counts R) 1 rows (r .rising) x i, all-in (Blank R) free (s .blank) x j kind.count (omega arith) (λ e. omega (arith, e))) in
+      omega (arith, rising-in (counts R) 1 rows (r .rising) x i, all-in (Blank R) free (s .blank) x j kind.count (omega arith) (λ e. omega (arith, e))) in
       record {
         rows = rows;
         free = free;

@@ -1,18 +1,13 @@
+-- What the walk asks of the rows left is what it asked of all: each turn takes the first part of it, and the end is the chain's. Assumes nothing.
 use borrow.Author.Needs.{needs}
-use borrow.Author.Tests.{not-true, not-false}
-use mathlib.Core.Logic.{_↔_}
-use mathlib.Core.Path.{sym, _∙_}
+use borrow.Author.Tests.{not-false}
+use mathlib.Core.Logic.{_↔_, Iff·rfl}
 use native.Mathlib.Omega.{arith}
 use Rattle.table.specs.Regions.{regions}
 use Rattle.order_check.specs.Check.{Free, Idle}
-use Rattle.order_check.proofs.Answers.{refused, fails, compared, instead, free-turn, free-end, left-over}
+use Rattle.order_check.proofs.Answers.{refused, lacks, compared, instead, free-turn, free-end, left-over}
 use Rattle.order_check.proofs.idle.Statement.{statement}
 use Rattle.order_check.proofs.idle.Tie as tie
-use Rattle.order_check.proofs.idle.Reads as reads
-use Rattle.order_check.proofs.idle.Lts as lts
-use Rattle.order_check.proofs.blank.Reads as blank-reads
-use Rattle.table.proofs.client.Reads as client-reads
-use Rattle.table.proofs.header.Reads as header-reads
 
 abbrev Inv-loop : tie.InvT-loop
 Inv-loop t q rest rows left₀ at₀ left at = Free q (regions q t) left at ↔ Idle q (regions q t) rest
@@ -20,53 +15,45 @@ Inv-loop t q rest rows left₀ at₀ left at = Free q (regions q t) left at ↔ 
 abbrev μ-loop : tie.MeasureT-loop
 μ-loop t q rest rows left₀ at₀ left at = left
 
--- src/lib.rt:126:16
 cast-rows : tie.Need-cast-rows Inv-loop μ-loop
 cast-rows c = search needs
 
--- src/lib.rt:128:9
 header-requires : tie.Need-header-requires Inv-loop μ-loop
 header-requires c κs = search needs
 
--- src/lib.rt:129:5
 loop-holds : tie.Need-loop-holds Inv-loop μ-loop
-loop-holds c = rw (c .header .ensures) (λ w. w, λ w. w)
+loop-holds c = rw (c .header .ensures) Iff·rfl
 
--- src/lib.rt:131:13
 returns : tie.Need-returns Inv-loop μ-loop
-returns c = let s = free-turn _ _ _ _ _ (c .before .before .loop .inv) (c .before .loop-test .taken) in
+returns c =
+    let s = free-turn _ _ _ _ _ (c .before .before .loop .inv) (c .before .loop-test .taken) in
     refused (λ p. let h = s .1 p .0 in omega arith)
 
--- src/lib.rt:133:13
 blank-requires : tie.Need-blank-requires Inv-loop μ-loop
 blank-requires c κs = search needs
 
--- src/lib.rt:134:13
 returns-2 : tie.Need-returns-2 Inv-loop μ-loop
-returns-2 c = let t = c .before .before .before in
+returns-2 c =
+    let t = c .before .before .before in
     let s = free-turn _ _ _ _ _ (t .before .loop .inv) (t .loop-test .taken) in
-    refused (λ p. fails (c .before .blank .ensures) (not-true _ (c .if2 .taken)) (s .1 p .1))
+    lacks _ (c .if2 .taken) (λ p. c .before .blank .ensures .passes (s .1 p .1))
 
--- src/lib.rt:136:9
 client-requires : tie.Need-client-requires Inv-loop μ-loop
 client-requires c κs = search needs
 
--- src/lib.rt:137:9
 sub-left : tie.Need-sub-left Inv-loop μ-loop
 sub-left c = search needs
 
--- src/lib.rt:129:5
 loop-less : tie.Need-loop-less Inv-loop μ-loop
 loop-less c = search needs
 
--- src/lib.rt:129:5
 loop-again : tie.Need-loop-again Inv-loop μ-loop
-loop-again c = let b = c .before .before in
+loop-again c =
+    let b = c .before .before in
     let t = b .before .before in
     let s = free-turn _ _ _ _ _ (t .before .loop .inv) (t .loop-test .taken) in
     rw (c .client .ensures) (left-over s (b .before .if1 .left) (b .blank .ensures .right (not-false _ (c .before .if2 .left))))
 
--- src/lib.rt:122:1
 returns-3 : tie.Need-returns-3 Inv-loop μ-loop
 returns-3 c = instead (free-end _ _ _ _ _ (c .before .loop .inv) (c .loop-test .left)) (compared _ _)
 

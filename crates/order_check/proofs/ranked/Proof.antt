@@ -1,20 +1,15 @@
+-- What the walk asks of the rows left is what it asked of all: each turn takes the first part of it, and the end is the order's. Assumes nothing.
 use borrow.Author.Needs.{needs}
-use borrow.Author.Tests.{not-true, not-false}
-use mathlib.Core.Logic.{_↔_}
+use borrow.Author.Tests.{not-false}
+use mathlib.Core.Logic.{_↔_, Iff·rfl}
 use mathlib.Core.Path.{sym, _∙_}
 use Prim.Native.Nat.{_≤_}
 use native.Mathlib.Omega.{arith}
 use Rattle.table.specs.Regions.{regions}
 use Rattle.order_check.specs.Check.{Walk, Ranked}
-use Rattle.order_check.proofs.Answers.{refused, fails, instead, walk-turn, walk-end, left-over}
+use Rattle.order_check.proofs.Answers.{refused, lacks, instead, walk-turn, walk-end, left-over}
 use Rattle.order_check.proofs.ranked.Statement.{statement}
 use Rattle.order_check.proofs.ranked.Tie as tie
-use Rattle.order_check.proofs.ranked.Reads as reads
-use Rattle.order_check.proofs.ranked.Lts as lts
-use Rattle.order_check.proofs.ended.Reads as ended-reads
-use Rattle.order_check.proofs.joins.Reads as joins-reads
-use Rattle.table.proofs.client.Reads as client-reads
-use Rattle.table.proofs.header.Reads as header-reads
 
 abbrev Inv-loop : tie.InvT-loop
 Inv-loop t q rows left₀ at₀ prev₀ floor₀ left at prev floor = (floor ≤ q) × (Walk q (regions q t) left at prev floor ↔ Ranked q (regions q t))
@@ -22,89 +17,77 @@ Inv-loop t q rows left₀ at₀ prev₀ floor₀ left at prev floor = (floor ≤
 abbrev μ-loop : tie.MeasureT-loop
 μ-loop t q rows left₀ at₀ prev₀ floor₀ left at prev floor = left
 
--- src/lib.rt:76:16
 cast-rows : tie.Need-cast-rows Inv-loop μ-loop
 cast-rows c = search needs
 
--- src/lib.rt:77:9
 header-requires : tie.Need-header-requires Inv-loop μ-loop
 header-requires c κs = search needs
 
--- src/lib.rt:78:9
 header-requires-2 : tie.Need-header-requires-2 Inv-loop μ-loop
 header-requires-2 c κs = search needs
 
--- src/lib.rt:81:5
 loop-holds : tie.Need-loop-holds Inv-loop μ-loop
-loop-holds c = (search needs, rw (c .before .header .ensures, c .header2 .ensures) (λ w. w, λ w. w))
+loop-holds c = (search needs, rw (c .before .header .ensures, c .header2 .ensures) Iff·rfl)
 
--- src/lib.rt:83:13
 returns : tie.Need-returns Inv-loop μ-loop
-returns c = let s = walk-turn _ _ _ _ _ _ _ (c .before .before .loop .inv .1) (c .before .loop-test .taken) in
+returns c =
+    let s = walk-turn _ _ _ _ _ _ _ (c .before .before .loop .inv .1) (c .before .loop-test .taken) in
     refused (λ p. let h = s .1 p .0 in omega arith)
 
--- src/lib.rt:85:21
 client-requires : tie.Need-client-requires Inv-loop μ-loop
 client-requires c κs = search needs
 
--- src/lib.rt:85:21
 cast-count : tie.Need-cast-count Inv-loop μ-loop
 cast-count c = search needs
 
--- src/lib.rt:86:13
 joins-requires : tie.Need-joins-requires Inv-loop μ-loop
 joins-requires c κs = search needs
 
--- src/lib.rt:87:13
 returns-2 : tie.Need-returns-2 Inv-loop μ-loop
-returns-2 c = let n = c .before .before in
+returns-2 c =
+    let n = c .before .before in
     let t = n .before .before in
     let s = walk-turn _ _ _ _ _ _ _ (t .before .loop .inv .1) (t .loop-test .taken) in
-    let j = rw (n .client .ensures) at (c .before .joins .ensures) in
-    refused (λ p. fails j (not-true _ (c .if2 .taken)) (s .1 p .1))
+    lacks _ (c .if2 .taken) (λ p. c .before .joins .ensures .passes (rw (n .client .ensures) (s .1 p .1)))
 
--- src/lib.rt:91:9
 client-requires-2 : tie.Need-client-requires-2 Inv-loop μ-loop
 client-requires-2 c κs = search needs
 
--- src/lib.rt:92:9
 sub-left : tie.Need-sub-left Inv-loop μ-loop
 sub-left c = search needs
 
--- src/lib.rt:81:5
 loop-less : tie.Need-loop-less Inv-loop μ-loop
 loop-less c = search needs
 
--- src/lib.rt:81:5
 loop-again : tie.Need-loop-again Inv-loop μ-loop
-loop-again c = let j = c .before .before in
+loop-again c =
+    let j = c .before .before in
     let n = j .before in
     let t = n .before .before in
     let s = walk-turn _ _ _ _ _ _ _ (t .before .loop .inv .1) (t .loop-test .taken) in
     let w = j .joins .ensures .right (not-false _ (c .before .if2 .left)) in
     (w .most, rw (c .client2 .ensures, n .client .ensures) (left-over s (n .before .if1 .left) (rw (n .client .ensures) at w)))
 
--- src/lib.rt:95:9
 returns-3 : tie.Need-returns-3 Inv-loop μ-loop
-returns-3 c = refused (λ p. c .if3 .taken (walk-end _ _ _ _ _ _ _ (c .before .before .loop .inv .1) (c .before .loop-test .left) .1 p .0))
+returns-3 c =
+    let s = walk-end _ _ _ _ _ _ _ (c .before .before .loop .inv .1) (c .before .loop-test .left) in
+    refused (λ p. c .if3 .taken (s .1 p .0))
 
--- src/lib.rt:97:8
 header-requires-3 : tie.Need-header-requires-3 Inv-loop μ-loop
 header-requires-3 c κs = search needs
 
--- src/lib.rt:98:9
 returns-4 : tie.Need-returns-4 Inv-loop μ-loop
-returns-4 c = let t = c .before .before .before in
+returns-4 c =
+    let t = c .before .before .before in
     let s = walk-end _ _ _ _ _ _ _ (t .before .loop .inv .1) (t .loop-test .left) in
     refused (λ p. c .if4 .taken (c .before .header3 .ensures ∙ s .1 p .1))
 
--- src/lib.rt:100:5
 ended-requires : tie.Need-ended-requires Inv-loop μ-loop
 ended-requires c κs = search needs
 
--- src/lib.rt:72:1
 returns-5 : tie.Need-returns-5 Inv-loop μ-loop
-returns-5 c = let h = c .before .before in
+returns-5 c =
+    let h = c .before .before in
     let t = h .before .before in
     let s = walk-end _ _ _ _ _ _ _ (t .before .loop .inv .1) (t .loop-test .left) in
     instead (left-over s (h .before .if3 .left) (sym (h .header3 .ensures) ∙ c .before .if4 .left)) (c .ended .ensures)
