@@ -7,9 +7,8 @@ use native.Mathlib.Omega.{arith}
 use lib.Dec.{eqb}
 use borrow.Author.Tests.{eqb-true, eq-eqb, not-true}
 use Rattle.table.proofs.Range.{no}
-use Rattle.table.specs.Kind as kind
 use Rattle.table.specs.Regions.{Regions}
-use Rattle.order_check.specs.Check.{Tells, Ended, Joins, Walk, Blank, Free}
+use Rattle.order_check.specs.Check.{Tells, Walk, Free}
 
 pub passed : {P : Type 0} → P → Tells true P
 passed p = record { right = λ e. p; passes = λ q. refl }
@@ -37,18 +36,17 @@ module _ (F : ℕ → Type 0) (P : Type 0) (n : ℕ) (so : F n ↔ P) where
   stop h = let e : n ≡ 0 = omega arith in subst (λ (k : ℕ). F k ↔ P) e so
 
 module _ (q : ℕ) (R : Regions) (n at prev floor : ℕ) (P : Type 0) (so : Walk q R n at prev floor ↔ P) where
-  pub walk-turn : 0 < n
-      → ((at < q) × Joins q R at (R .client at kind.count) prev floor × Walk q R (n - 1) (R .client at kind.heavier) at (R .client at kind.count)) ↔ P
+  pub walk-turn : 0 < n → Walk q R (suc (n - 1)) at prev floor ↔ P
   walk-turn h = turn (λ k. Walk q R k at prev floor) P n so h
 
-  pub walk-end : n ≤ 0 → ((at ≡ kind.none) × (R .header kind.heaviestAt ≡ prev) × Ended R floor prev q) ↔ P
+  pub walk-end : n ≤ 0 → Walk q R zero at prev floor ↔ P
   walk-end h = stop (λ k. Walk q R k at prev floor) P n so h
 
 module _ (q : ℕ) (R : Regions) (n at : ℕ) (P : Type 0) (so : Free q R n at ↔ P) where
-  pub free-turn : 0 < n → ((at < q) × Blank R at × Free q R (n - 1) (R .client at kind.heavier)) ↔ P
+  pub free-turn : 0 < n → Free q R (suc (n - 1)) at ↔ P
   free-turn h = turn (λ k. Free q R k at) P n so h
 
-  pub free-end : n ≤ 0 → (at ≡ kind.none) ↔ P
+  pub free-end : n ≤ 0 → Free q R zero at ↔ P
   free-end h = stop (λ k. Free q R k at) P n so h
 
 -- the first two parts hold, so the third is P

@@ -1,23 +1,21 @@
 -- The check passes exactly where the clients are right.
-use mathlib.Core.List.{List, [], _∷_, _++_, map}
+use mathlib.Core.List.{List, [], _∷_, map}
 use mathlib.Core.Bool.{Bool}
-use mathlib.Core.Path.{_≡_, refl, sym, ap, _∙_}
-use mathlib.Core.Logic.{⊎-elim, inl, inr}
-use Prim.Native.Nat.{ℕ, zero, suc, _-_, max, _≤_, _<_}
+use mathlib.Core.Path.{_≡_, refl, sym, ap}
+use Prim.Native.Nat.{ℕ, zero, suc, _+_, _-_, max, _≤_}
 use native.Mathlib.Omega.{arith}
 use lib.ListN.{length, length-append}
 use Rattle.table.specs.Kind as kind
 use Rattle.table.specs.Regions.{Regions, regions}
-use Rattle.rules.specs.Rows.{In, All, Distinct, Below, Rising, Once}
-use Rattle.rules.specs.Linked.{Run, Chain, order}
-use Rattle.rules.specs.Parts.{Ordered}
-use Rattle.rules.proofs.Rows.{in-either, in-below, below-in, below-left, below-right, past, distinct-both, all-in, in-all}
+use Rattle.rules.specs.Rows.{In, All, Below, Rising}
+use Rattle.rules.specs.Linked.{Run, Linked, Chain, order}
+use Rattle.rules.proofs.Rows.{below-right, past, distinct-both, all-in, in-all}
 use Rattle.order_check.specs.Check.{Tells, Walk, Blank, Free, Passes}
 use Rattle.order_check.specs.Clients.{Clients, Checked}
-use Rattle.order_check.proofs.Walks.{run-distinct, chain-distinct}
+use Rattle.order_check.proofs.Walks.{run-distinct, chain-distinct, once-both}
 use Rattle.order_check.proofs.Groups.{counts, rising-in, Ends, ends-back, begins, ends-on}
 
--- from 1 up, and from a count up
+-- the least count that may follow one of c
 least-is : (c : ℕ) → 1 ≤ c → max 1 c ≡ c
 least-is c h = omega arith
 
@@ -98,55 +96,57 @@ module _ (q : ℕ) (R : Regions) where
   pub clients-right : q ≤ kind.largest → Passes q R → Clients q R
   clients-right small p =
       let n = R .header kind.clientsAt in
+      let first = R .header kind.freeClientAt in
       let rows = path (order R .on) n (order R .first) in
-      let free = path (order R .on) (q - n) (R .header kind.freeClientAt) in
+      let free = path (order R .on) (q - n) first in
       let r = walk-rest n (order R .first) kind.none 0 (p .ranked) in
-      let s = free-spare (q - n) (R .header kind.freeClientAt) (p .idle) in
-      let distinct : Distinct rows = run-distinct (order R .back) (order R .on) kind.none (order R .last) kind.none (order R .first) rows (past q kind.none rows (omega arith) (r .below)) (r .run) in
+      let s = free-spare (q - n) first (p .idle) in
+      let blank = all-in (Blank R) free (s .blank) in
+      let outside = past q kind.none rows (omega arith) (r .below) in
+      let linked : Linked q (order R) rows =
+      record { run = r .run; distinct = run-distinct (order R .back) (order R .on) kind.none (order R .last) kind.none (order R .first) rows outside (r .run); below = r .below } in
       let apart : (x : ℕ) → In x rows → In x free → ⊥ = λ x i j.
-      omega (arith, rising-in (counts R) 1 rows (r .rising) x i, all-in (Blank R) free (s .blank) x j kind.count (omega arith) (λ e. omega (arith, e))) in
+      omega (arith, rising-in (counts R) 1 rows (r .rising) x i, blank x j kind.count (omega arith) (λ e. omega (arith, e))) in
+      let distinct = distinct-both rows free (linked .distinct) (chain-distinct q small (order R .on) first free (s .chain) (s .below)) apart in
+      let long : length rows + length free ≡ q = simp length-path (omega (arith, p .few)) in
       record {
         rows = rows;
         free = free;
         ordered =
             record {
               number = sym (length-path (order R .on) n (order R .first));
-              linked = record { run = r .run; distinct = distinct; below = r .below };
+              linked = linked;
               counted = λ x i. refl;
               rising = r .rising;
               most = all-in (λ x. counts R x ≤ q) rows (r .most);
               lightEnd = λ k h. r .ends .fresh k h (omega arith) .0;
               heavyEnd = λ k h. r .ends .fresh k h (omega arith) .1;
-              each =
-                  record {
-                    distinct = distinct-both rows free distinct (chain-distinct q small (order R .on) (R .header kind.freeClientAt) free (s .chain) (s .below)) apart;
-                    below = below-in q (rows ++ free) (λ x i. ⊎-elim (in-below q rows (r .below) x) (in-below q free (s .below) x) (in-either x rows free i));
-                    long = length-append rows free ∙ omega (arith, length-path (order R .on) n (order R .first), length-path (order R .on) (q - n) (R .header kind.freeClientAt), p .few);
-                  };
+              each = once-both q rows free distinct (r .below) (s .below) long;
               chain = s .chain;
-              idle = λ x i f h. all-in (Blank R) free (s .blank) x i f (omega arith) (λ e. omega arith);
+              idle = λ x i f h. blank x i f (omega arith) (λ e. omega arith);
             };
-        blank = all-in (Blank R) free (s .blank);
+        blank = blank;
       }
 
   pub clients-pass : Clients q R → Passes q R
   clients-pass c =
       let o = c .ordered in
       let all = simp length-append at (o .each .long) in
-      let few : q - R .header kind.clientsAt ≡ length (c .free) = omega (arith, all, o .number) in
+      let others : q - R .header kind.clientsAt ≡ length (c .free) = omega (arith, all, o .number) in
+      let rest : Rest (order R .first) kind.none 0 (c .rows) =
+      record {
+        run = o .linked .run;
+        below = o .linked .below;
+        rising = o .rising;
+        most = in-all (λ r. counts R r ≤ q) (c .rows) (o .most);
+        ends = record { begun = λ k h. absurd (omega arith); fresh = λ k h f. (o .lightEnd k h, o .heavyEnd k h) };
+      } in
+      let spare : Spare (R .header kind.freeClientAt) (c .free) =
+      record { chain = o .chain; below = below-right q (c .rows) (c .free) (o .each .below); blank = in-all (Blank R) (c .free) (c .blank) } in
       record {
         few = omega (arith, all, o .number);
-        ranked =
-            rw (o .number)
-            (rest-walk (c .rows) (order R .first) kind.none 0
-            (record {
-              run = o .linked .run;
-              below = o .linked .below;
-              rising = o .rising;
-              most = in-all (λ r. counts R r ≤ q) (c .rows) (o .most);
-              ends = record { begun = λ k h. absurd (omega arith); fresh = λ k h f. (o .lightEnd k h, o .heavyEnd k h) };
-            }));
-        idle = rw few (spare-free (c .free) (R .header kind.freeClientAt) (record { chain = o .chain; below = below-right q (c .rows) (c .free) (o .each .below); blank = in-all (Blank R) (c .free) (c .blank) }));
+        ranked = rw (o .number) (rest-walk (c .rows) (order R .first) kind.none 0 rest);
+        idle = rw others (spare-free (c .free) (R .header kind.freeClientAt) spare);
       }
 
 pub checked : {ok : Bool} (q : ℕ) (t : List ℕ) → q ≤ kind.largest → Tells ok (Passes q (regions q t)) → Checked q t ok

@@ -1,14 +1,14 @@
--- Walks that keep no marks and yet meet no row twice: links that agree both ways from a none end, and a chain that ends.
-use mathlib.Core.List.{List, [], _∷_}
+-- Walks that keep no marks and yet meet no row twice: links that agree both ways from a none end, and a chain that ends. And two lists that are all the rows.
+use mathlib.Core.List.{List, [], _∷_, _++_}
 use mathlib.Core.Path.{_≡_, refl, sym, ap, _∙_, subst}
 use mathlib.Core.Logic.{⊎-elim, inl, inr}
-use Prim.Native.Nat.{ℕ, suc, _≤_}
+use Prim.Native.Nat.{ℕ, suc, _+_, _≤_}
 use native.Mathlib.Omega.{arith}
-use lib.ListN.{length}
+use lib.ListN.{length, length-append}
 use Rattle.table.specs.Kind as kind
-use Rattle.rules.specs.Rows.{In, NotIn, Distinct, Below}
+use Rattle.rules.specs.Rows.{In, NotIn, Distinct, Below, Once}
 use Rattle.rules.specs.Linked.{Run, Chain}
-use Rattle.rules.proofs.Rows.{not-both, notin}
+use Rattle.rules.proofs.Rows.{not-both, notin, in-either, in-below, below-in}
 
 module _ (b o : ℕ → ℕ) (n l : ℕ) where
   -- the row before each row of a run is in it too, or is the one before them all
@@ -42,3 +42,12 @@ module _ (q : ℕ) (small : q ≤ kind.largest) (o : ℕ → ℕ) where
   chain-distinct h [] a b = tt
   chain-distinct h (x ∷ xs) a b =
       (notin x xs (λ i. omega (arith, no-longer (o x) xs x (x ∷ xs) (a .1) (refl, a .1) (b .1) b i)), chain-distinct (o x) xs (a .1) (b .1))
+
+-- two lists with no row in common that are together as many as there are rows
+pub once-both : (q : ℕ) (xs ys : List ℕ) → Distinct (xs ++ ys) → Below q xs → Below q ys → length xs + length ys ≡ q → Once q (xs ++ ys)
+once-both q xs ys d a b e =
+    record {
+      distinct = d;
+      below = below-in q (xs ++ ys) (λ x i. ⊎-elim (in-below q xs a x) (in-below q ys b x) (in-either x xs ys i));
+      long = length-append xs ys ∙ e;
+    }

@@ -1,7 +1,6 @@
 // The clients' part of the soundness check: their order, the count rows and the free client rows. It reads each word once and keeps no marks.
 // It rests on the table's size (`Sized`), which the calls offered outside have tested, and on nothing else.
 ghost use Prim.Native.Nat.{_≤_, _<_};
-ghost use Rattle.table.specs.Kind as kind;
 ghost use Rattle.table.specs.Regions.{Sized, regions};
 ghost use Rattle.order_check.specs.Check.{Tells, Bare, Ended, Joins, Ranked, Blank, Idle};
 ghost use Rattle.order_check.specs.Clients.{Checked};
@@ -117,15 +116,15 @@ fn blank(t: &[u32], q: usize, r: u32) -> bool
     true
 }
 
-// Whether the free chain has `rest` rows, all blank.
-fn idle(t: &[u32], q: usize, rest: usize) -> bool
+// Whether the free chain has n rows, all blank.
+fn idle(t: &[u32], q: usize, n: usize) -> bool
     requires { ⌜ Sized q (now t) ⌝ }
-    ensures { λ ok. ⌜ Tells ok (Idle q (regions q (now (t .entry))) rest) ⌝ }
+    ensures { λ ok. ⌜ Tells ok (Idle q (regions q (now (t .entry))) n) ⌝ }
 {
     let rows = q as u32;
-    let mut left = rest;
+    let mut rest = n;
     let mut at = table::header(t, q, LinkedTable::FREE_CLIENT_AT);
-    while 0 < left {
+    while 0 < rest {
         if rows <= at {
             return false;
         }
@@ -133,7 +132,7 @@ fn idle(t: &[u32], q: usize, rest: usize) -> bool
             return false;
         }
         at = table::client(t, q, at, LinkedTable::HEAVIER);
-        left -= 1;
+        rest -= 1;
     }
     at == LinkedTable::NONE
 }

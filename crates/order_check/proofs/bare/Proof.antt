@@ -1,8 +1,8 @@
 -- The rows before k are bare; a row that is not shows that they are not. Assumes nothing.
 use borrow.Author.Needs.{needs}
 use borrow.Author.Count.{below-more}
-use mathlib.Core.Path.{_≡_, sym, _∙_}
-use Prim.Native.Nat.{ℕ, _-_, _≤_}
+use mathlib.Core.Path.{sym, _∙_}
+use Prim.Native.Nat.{_-_, _≤_}
 use native.Mathlib.Omega.{arith}
 use Rattle.table.specs.Regions.{regions}
 use Rattle.order_check.specs.Check.{Bare}

@@ -10,10 +10,10 @@ use Rattle.order_check.proofs.idle.Statement.{statement}
 use Rattle.order_check.proofs.idle.Tie as tie
 
 abbrev Inv-loop : tie.InvT-loop
-Inv-loop t q rest rows left₀ at₀ left at = Free q (regions q t) left at ↔ Idle q (regions q t) rest
+Inv-loop t q n rows rest₀ at₀ rest at = Free q (regions q t) rest at ↔ Idle q (regions q t) n
 
 abbrev μ-loop : tie.MeasureT-loop
-μ-loop t q rest rows left₀ at₀ left at = left
+μ-loop t q n rows rest₀ at₀ rest at = rest
 
 cast-rows : tie.Need-cast-rows Inv-loop μ-loop
 cast-rows c = search needs
@@ -41,8 +41,8 @@ returns-2 c =
 client-requires : tie.Need-client-requires Inv-loop μ-loop
 client-requires c κs = search needs
 
-sub-left : tie.Need-sub-left Inv-loop μ-loop
-sub-left c = search needs
+sub-rest : tie.Need-sub-rest Inv-loop μ-loop
+sub-rest c = search needs
 
 loop-less : tie.Need-loop-less Inv-loop μ-loop
 loop-less c = search needs
@@ -70,7 +70,7 @@ idle-spec =
     blank-requires
     returns-2
     client-requires
-    sub-left
+    sub-rest
     loop-less
     loop-again
     returns-3)
