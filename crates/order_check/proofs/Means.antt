@@ -8,11 +8,11 @@ use lib.ListN.{length, length-append}
 use Rattle.table.specs.Kind as kind
 use Rattle.table.specs.Regions.{Regions, regions}
 use Rattle.rules.specs.Rows.{In, All, Below, Rising}
-use Rattle.rules.specs.Linked.{Run, Linked, Chain, order}
-use Rattle.rules.proofs.Rows.{below-right, past, distinct-both, all-in, in-all}
+use Rattle.rules.specs.Linked.{Run, Chain, order}
+use Rattle.rules.proofs.Rows.{below-right, distinct-both, all-in, in-all}
 use Rattle.order_check.specs.Check.{Tells, Walk, Blank, Free, Passes}
 use Rattle.order_check.specs.Clients.{Clients, Checked}
-use Rattle.order_check.proofs.Walks.{run-distinct, chain-distinct, once-both}
+use Rattle.order_check.proofs.Walks.{run-linked, chain-distinct, once-both}
 use Rattle.order_check.proofs.Groups.{counts, rising-in, Ends, ends-back, begins, ends-on}
 
 -- the least count that may follow one of c
@@ -93,6 +93,7 @@ module _ (q : ℕ) (R : Regions) where
       rw (s .chain .0)
       (s .below .0, s .blank .0, spare-free xs (order R .on x) (record { chain = s .chain .1; below = s .below .1; blank = s .blank .1 }))
 
+  -- what passes is right
   pub clients-right : q ≤ kind.largest → Passes q R → Clients q R
   clients-right small p =
       let n = R .header kind.clientsAt in
@@ -102,9 +103,7 @@ module _ (q : ℕ) (R : Regions) where
       let r = walk-rest n (order R .first) kind.none 0 (p .ranked) in
       let s = free-spare (q - n) first (p .idle) in
       let blank = all-in (Blank R) free (s .blank) in
-      let outside = past q kind.none rows (omega arith) (r .below) in
-      let linked : Linked q (order R) rows =
-      record { run = r .run; distinct = run-distinct (order R .back) (order R .on) kind.none (order R .last) kind.none (order R .first) rows outside (r .run); below = r .below } in
+      let linked = run-linked q (order R) rows small (r .run) (r .below) in
       let apart : (x : ℕ) → In x rows → In x free → ⊥ = λ x i j.
       omega (arith, rising-in (counts R) 1 rows (r .rising) x i, blank x j kind.count (omega arith) (λ e. omega (arith, e))) in
       let distinct = distinct-both rows free (linked .distinct) (chain-distinct q small (order R .on) first free (s .chain) (s .below)) apart in
@@ -128,6 +127,7 @@ module _ (q : ℕ) (R : Regions) where
         blank = blank;
       }
 
+  -- and what is right passes
   pub clients-pass : Clients q R → Passes q R
   clients-pass c =
       let o = c .ordered in

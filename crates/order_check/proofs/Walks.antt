@@ -7,8 +7,8 @@ use native.Mathlib.Omega.{arith}
 use lib.ListN.{length, length-append}
 use Rattle.table.specs.Kind as kind
 use Rattle.rules.specs.Rows.{In, NotIn, Distinct, Below, Once}
-use Rattle.rules.specs.Linked.{Run, Chain}
-use Rattle.rules.proofs.Rows.{not-both, notin, in-either, in-below, below-in}
+use Rattle.rules.specs.Linked.{Links, Run, Linked, Chain}
+use Rattle.rules.proofs.Rows.{not-both, notin, in-either, in-below, below-in, past}
 
 module _ (b o : ℕ → ℕ) (n l : ℕ) where
   -- the row before each row of a run is in it too, or is the one before them all
@@ -16,11 +16,16 @@ module _ (b o : ℕ → ℕ) (n l : ℕ) where
   before p h [] y r i = absurd i
   before p h (x ∷ xs) y r i = ⊎-elim (λ e. inl (ap b e ∙ r .1)) (λ j. inr (before x (o x) xs y (r .2) j)) i
 
-  pub run-distinct : (p h : ℕ) (xs : List ℕ) → NotIn p xs → Run b o p h xs n l → Distinct xs
+  run-distinct : (p h : ℕ) (xs : List ℕ) → NotIn p xs → Run b o p h xs n l → Distinct xs
   run-distinct p h [] f r = tt
   run-distinct p h (x ∷ xs) f r =
       let apart : NotIn x xs = notin x xs (λ i. not-both p (x ∷ xs) (subst (λ (z : ℕ). In z (x ∷ xs)) (r .1) (before x (o x) xs x (r .2) i)) f) in
       (apart, run-distinct x (o x) xs apart (r .2))
+
+pub run-linked : (q : ℕ) (L : Links) (xs : List ℕ) → q ≤ kind.largest → Run (L .back) (L .on) kind.none (L .first) xs kind.none (L .last) → Below q xs → Linked q L xs
+run-linked q L xs small r b =
+    let apart = past q kind.none xs (omega arith) b in
+    record { run = r; distinct = run-distinct (L .back) (L .on) kind.none (L .last) kind.none (L .first) xs apart r; below = b }
 
 -- a chain is fixed by where it starts, so the chain from one of its rows on is no longer than it is
 module _ (q : ℕ) (small : q ≤ kind.largest) (o : ℕ → ℕ) where

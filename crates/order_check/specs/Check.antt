@@ -10,11 +10,11 @@ pub record Tells (ok : Bool) (P : Type 0) : Type 0 where
   pub right : ok ≡ true → P
   pub passes : P → ok ≡ true
 
--- the count rows from `from` up to `to` hold none twice
+-- the count rows from `from` on and below `to` hold none twice
 abbrev pub Bare : Regions → ℕ → ℕ → Type 0
 Bare R from to = (k : ℕ) → k < to → from ≤ k → (R .count k kind.lightEnd ≡ kind.none) × (R .count k kind.heavyEnd ≡ kind.none)
 
--- the group of this count, where it is not 0, ends with the row `prev`, and nobody has a count above it up to that of count row `to`
+-- the group of this count, where it is not 0, ends with the row `prev`, and the count rows after its own and below `to` hold none twice
 pub record Ended (R : Regions) (count prev to : ℕ) : Type 0 where
   pub last : (k : ℕ) → suc k ≡ count → R .count k kind.heavyEnd ≡ prev
   pub bare : Bare R count to
@@ -28,7 +28,7 @@ pub record Joins (q : ℕ) (R : Regions) (at count prev floor : ℕ) : Type 0 wh
   pub most : count ≤ q
   pub begins : (count ≡ floor → ⊥) → (k : ℕ) → suc k ≡ count → (R .count k kind.lightEnd ≡ at) × Ended R floor prev k
 
--- n rows from `at` on join, and then the order ends
+-- n rows from `at` on, after `prev`, join one after the other, and there the order ends
 abbrev pub Walk : ℕ → Regions → ℕ → ℕ → ℕ → ℕ → Type 0
 Walk q R zero at prev floor = (at ≡ kind.none) × (R .header kind.heaviestAt ≡ prev) × Ended R floor prev q
 Walk q R (suc n) at prev floor =

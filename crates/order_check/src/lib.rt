@@ -6,7 +6,7 @@ ghost use Rattle.order_check.specs.Check.{Tells, Bare, Ended, Joins, Ran
 ghost use Rattle.order_check.specs.Clients.{Checked};
 use table::LinkedTable;
 
-// Whether the count rows from `from` up to `to` hold none twice.
+// Whether the count rows from `from` on and below `to` hold none twice.
 fn bare(t: &[u32], q: usize, from: usize, to: usize) -> bool
     requires { ⌜ Sized q (now t) ⌝ }
     requires { ⌜ to ≤ q ⌝ }
@@ -25,7 +25,7 @@ fn bare(t: &[u32], q: usize, from: usize, to: usize) -> bool
     true
 }
 
-// Whether the group of this count ends with `prev`, and nobody has a count above it up to that of count row `to`.
+// Whether the group of this count, where it is not 0, ends with `prev`, and the count rows after its own and below `to` hold none twice.
 fn ended(t: &[u32], q: usize, count: usize, prev: u32, to: usize) -> bool
     requires { ⌜ Sized q (now t) ⌝ }
     requires { ⌜ (count ≤ q) × (to ≤ q) ⌝ }
@@ -39,7 +39,7 @@ fn ended(t: &[u32], q: usize, count: usize, prev: u32, to: usize) -> bool
     bare(t, q, count, to)
 }
 
-// Whether row `at`, of this count, may follow `prev`, whose count is `floor`. Where the two differ a group ends and another begins.
+// Whether row `at`, of this count, may follow `prev`, of count `floor`: 0 before the first row. Where the counts differ a group ends and another begins.
 fn joins(t: &[u32], q: usize, at: u32, count: usize, prev: u32, floor: usize) -> bool
     requires { ⌜ Sized q (now t) ⌝ }
     requires { ⌜ at < q ⌝ }
@@ -66,7 +66,7 @@ fn joins(t: &[u32], q: usize, at: u32, count: usize, prev: u32, floor: usize) ->
     ended(t, q, floor, prev, count - 1)
 }
 
-// Whether the clients' links visit as many rows as the header says, the same both ways, each in its place by count.
+// Whether the clients' links visit as many rows as the header says, the same both ways, with counts that never fall and with the ends of each group in its count row.
 fn ranked(t: &[u32], q: usize) -> bool
     requires { ⌜ Sized q (now t) ⌝ }
     ensures { λ ok. ⌜ Tells ok (Ranked q (regions q (now (t .entry)))) ⌝ }
@@ -116,7 +116,7 @@ fn blank(t: &[u32], q: usize, r: u32) -> bool
     true
 }
 
-// Whether the free chain has n rows, all blank.
+// Whether the chain of free client rows has n rows, all blank.
 fn idle(t: &[u32], q: usize, n: usize) -> bool
     requires { ⌜ Sized q (now t) ⌝ }
     ensures { λ ok. ⌜ Tells ok (Idle q (regions q (now (t .entry))) n) ⌝ }
@@ -137,7 +137,7 @@ fn idle(t: &[u32], q: usize, n: usize) -> bool
     at == LinkedTable::NONE
 }
 
-// The clients' part of the soundness check.
+// Whether the clients' part of the table is sound. Rows that wait have a count and free ones have none, so together they are every row once.
 pub fn check_order(t: &[u32], q: usize) -> bool
     requires { ⌜ Sized q (now t) ⌝ }
     ensures { λ ok. ⌜ Checked q (now (t .entry)) ok ⌝ }
