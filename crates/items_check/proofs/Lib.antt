@@ -1,0 +1,4 @@
+-- Laws of the items' part of the check.
+pub mod Answers
+pub mod Lists
+pub mod Turns
