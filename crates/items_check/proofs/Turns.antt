@@ -12,7 +12,7 @@ use borrow.Author.Tests.{eq-eqb, ne-eqb, lt-ltb, le-ltb, eqb-true, eqb-false}
 use Rattle.table.specs.Kind as kind
 use Rattle.table.specs.Regions.{Regions}
 use Rattle.rules.specs.Linked.{Run, own}
-use Rattle.items_check.specs.Tells.{column, ownOf, Waits, nextOwn, Joins, Ends, AllEnded, Follows, Rest, Unmet, Idle, Frees, Free}
+use Rattle.items_check.specs.Tells.{column, ownOf, Waits, nextOwn, Joins, Ends, Finished, Follows, Rest, Unmet, Idle, Frees, Free}
 
 -- a column with v noted for c
 abbrev pub noted : ℕ → ℕ → (ℕ → ℕ) → ℕ → ℕ
@@ -68,17 +68,21 @@ module _ (q : ℕ) (R : Regions) where
     some h ([], f) = absurd (omega (arith, f .many))
     some h (y ∷ ys, f) = (ys, subst (λ (z : ℕ). Follows q R k x prev met seen (z ∷ ys)) (sym (f .run .0)) f)
 
-    pub record First : Type 0 where
+    -- so it joins, with its client c
+    pub record First (c : ℕ) : Type 0 where
       pub row : x < q
-      pub client : R .item x kind.owner < q
-      pub joins : Joins q R x prev (R .item x kind.owner) (met (R .item x kind.owner)) (seen (R .item x kind.owner))
+      pub client : c < q
+      pub joins : Joins q R x prev c (met c) (seen c)
 
-    pub first : 0 < k → Rest q R k x prev met seen → First
-    first h r =
+    pub first : 0 < k → Rest q R k x prev met seen → (c : ℕ) → c ≡ R .item x kind.owner → First c
+    first h r c is =
         let f = some h r .1 in
-        record { row = f .below .0; client = f .owners .0 .0; joins = own-first x prev (some h r .0) met seen (f .below .0) (f .own (R .item x kind.owner) (f .owners .0)) (f .run .1) }
+        let o = R .item x kind.owner in
+        let j : First o = record { row = f .below .0; client = f .owners .0 .0; joins = own-first x prev (some h r .0) met seen (f .below .0) (f .own o (f .owners .0)) (f .run .1) } in
+        rw is j
 
-    pub turn : 0 < k → First → Rest q R k x prev met seen ↔ Rest q R (k - 1) (R .item x kind.later) x (noted (R .item x kind.owner) x met) (noted (R .item x kind.owner) (seen (R .item x kind.owner) + 1) seen)
+    -- and where it joins, what is left to show is what is left after it
+    turn : 0 < k → First (R .item x kind.owner) → Rest q R k x prev met seen ↔ Rest q R (k - 1) (R .item x kind.later) x (noted (R .item x kind.owner) x met) (noted (R .item x kind.owner) (seen (R .item x kind.owner) + 1) seen)
     turn h a = (
       λ r.
           let f = some h r .1 in
@@ -88,12 +92,18 @@ module _ (q : ℕ) (R : Regions) where
           (x ∷ r .0, record { many = omega (arith, f .many); below = (a .row, f .below); run = (refl, a .joins .earlier, f .run); owners = ((a .client, λ z. omega (arith, z, a .joins .room)), f .owners); own = λ d w. own-on x prev (r .0) met seen (a .row) (a .joins) d .1 (f .own d w) }),
     )
 
-    pub done : k ≤ 0 → Rest q R k x prev met seen ↔ ((x ≡ kind.none) × (prev ≡ R .header kind.backAt) × AllEnded q R met seen)
-    done h = (λ r. ends (r .0) (r .1), λ e. ([], record { many = omega arith; below = tt; run = (e .0, sym (e .1)); owners = tt; own = e .2 }))
+    pub done : k ≤ 0 → Rest q R k x prev met seen ↔ Finished q R x prev met seen
+    done h = (λ r. ends (r .0) (r .1), λ e. ([], record { many = omega arith; below = tt; run = (e .none, sym (e .back)); owners = tt; own = e .own }))
       where
-        ends : (rows : List ℕ) → Follows q R k x prev met seen rows → (x ≡ kind.none) × (prev ≡ R .header kind.backAt) × AllEnded q R met seen
-        ends [] f = (f .run .0, sym (f .run .1), f .own)
+        ends : (rows : List ℕ) → Follows q R k x prev met seen rows → Finished q R x prev met seen
+        ends [] f = record { none = f .run .0; back = sym (f .run .1); own = f .own }
         ends (y ∷ ys) f = absurd (omega (arith, f .many))
+
+  -- the same turn as the code notes it
+  pub turn-noted : (k x prev : ℕ) (met seen : List ℕ) (c to : ℕ) → 0 < k → First k x prev (column met) (column seen) c → c ≡ R .item x kind.owner → to ≡ R .item x kind.later
+      → c < length met → c < length seen → Rest q R k x prev (column met) (column seen) ↔ Rest q R (k - 1) to x (column (set met c x)) (column (set seen c (column seen c + 1)))
+  turn-noted k x prev met seen c to h a ec et l m =
+      rw (noted-is met c x l, noted-is seen c (getD seen c 0 + 1) m, ec, et) (turn k x prev (column met) (column seen) h (rw ec at a))
 
   pub start : (k x prev : ℕ) (met seen : List ℕ) → Unmet q met seen → Rest q R k x prev (column met) (column seen) ↔ Rest q R k x prev (λ c. kind.none) (λ c. 0)
   start k x prev met seen u = (

@@ -47,12 +47,15 @@ pub record Ends (q : ℕ) (R : Regions) (c p n : ℕ) (xs : List ℕ) : Type 0 w
   pub run : Run (own c R .back) (own c R .on) p (nextOwn q R c p) xs kind.none (R .client c kind.newest)
   pub count : n + length xs ≡ R .client c kind.count
 
--- with p, the n-th, the list of client c ends, or row c is none's; so do all lists
+-- with p, the n-th, the own list of client c ends, or row c is no client's
 abbrev pub Ended : ℕ → Regions → ℕ → ℕ → ℕ → Type 0
 Ended q R c p n = Waits q R c → Ends q R c p n []
 
-abbrev pub AllEnded : ℕ → Regions → (ℕ → ℕ) → (ℕ → ℕ) → Type 0
-AllEnded q R met seen = (c : ℕ) → Ended q R c (met c) (seen c)
+-- with no row left at x, the window ends with prev, and each own list with what was met of it
+pub record Finished (q : ℕ) (R : Regions) (x prev : ℕ) (met seen : ℕ → ℕ) : Type 0 where
+  pub none : x ≡ kind.none
+  pub back : prev ≡ R .header kind.backAt
+  pub own : (c : ℕ) → Ended q R c (met c) (seen c)
 
 -- after prev the window has k rows from pointer x on, up to the back; and the own list of each client c, after met c, has those of its rows
 pub record Follows (q : ℕ) (R : Regions) (k x prev : ℕ) (met seen : ℕ → ℕ) (rows : List ℕ) : Type 0 where

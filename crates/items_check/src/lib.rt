@@ -5,7 +5,7 @@ ghost use lib.ListN.{length};
 ghost use Rattle.table.specs.Kind as kind;
 ghost use Rattle.table.specs.Regions.{Sized, regions};
 ghost use Rattle.items_check.specs.Items.{Checked};
-ghost use Rattle.items_check.specs.Tells.{Tells, column, nextOwn, Joins, Ended, AllEnded, Window, Unmet, Idle, Free};
+ghost use Rattle.items_check.specs.Tells.{Tells, column, nextOwn, Joins, Ended, Finished, Window, Unmet, Idle, Free};
 use table::LinkedTable;
 
 // The item that client c has after p, or its oldest where p is no row.
@@ -57,12 +57,18 @@ fn ends(t: &[u32], q: usize, c: u32, p: u32, n: u32) -> bool
     next_own(t, q, c, p) == LinkedTable::NONE
 }
 
-// Every client's own list ends with what was met of it.
-fn all_end(t: &[u32], q: usize, met: &[u32], seen: &[u32]) -> bool
+// With no row left at `at`, the window ends with prev and every client's own list with what was met of it.
+fn finished(t: &[u32], q: usize, at: u32, prev: u32, met: &[u32], seen: &[u32]) -> bool
     requires { ⌜ Sized q (now t) ⌝ }
     requires { ⌜ (q ≤ length (now met)) × (q ≤ length (now seen)) ⌝ }
-    ensures { λ ok. ⌜ Tells ok (AllEnded q (regions q (now (t .entry))) (column (now (met .entry))) (column (now (seen .entry)))) ⌝ }
+    ensures { λ ok. ⌜ Tells ok (Finished q (regions q (now (t .entry))) at prev (column (now (met .entry))) (column (now (seen .entry)))) ⌝ }
 {
+    if at != LinkedTable::NONE {
+        return false;
+    }
+    if prev != table::header(t, q, LinkedTable::BACK_AT) {
+        return false;
+    }
     let mut r: usize = 0;
     while r < q {
         if !ends(t, q, r as u32, met[r], seen[r]) {
@@ -102,13 +108,7 @@ fn follow(t: &[u32], q: usize, met: &mut [u32], seen: &mut [u32]) -> bool
         at = table::item(t, q, at, LinkedTable::LATER);
         left -= 1;
     }
-    if at != LinkedTable::NONE {
-        return false;
-    }
-    if prev != table::header(t, q, LinkedTable::BACK_AT) {
-        return false;
-    }
-    all_end(t, q, met, seen)
+    finished(t, q, at, prev, met, seen)
 }
 
 // The same, noted here: in little room for a small table, since clearing much takes longer than all of its check.

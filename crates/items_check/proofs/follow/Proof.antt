@@ -1,177 +1,133 @@
+-- Before each turn what is left to show of the window and the own lists is what was to be shown at first; the notes keep their lengths.
+use borrow.Author.Needs.{needs}
+use mathlib.Core.Path.{_≡_, refl, sym, _∙_}
+use mathlib.Core.Logic.{_↔_, Iff·trans, Iff·symm}
+use native.Mathlib.Omega.{arith}
+use lib.ListN.{length, length-set}
+use borrow.Author.Tests.{not-true, not-false}
+use Rattle.table.specs.Kind as kind
+use Rattle.table.specs.Regions.{regions}
+use Rattle.items_check.specs.Tells.{column, Rest, Window}
+use Rattle.items_check.proofs.Answers.{tells-no, tells-so, refuted}
+use Rattle.items_check.proofs.Turns.{First, first, turn-noted, done, start}
 use Rattle.items_check.proofs.follow.Statement.{statement}
 use Rattle.items_check.proofs.follow.Tie as tie
 use Rattle.items_check.proofs.follow.Reads as reads
 use Rattle.items_check.proofs.follow.Lts as lts
-use Rattle.items_check.proofs.all_end.Reads as all-end-reads
+use Rattle.items_check.proofs.finished.Reads as finished-reads
 use Rattle.items_check.proofs.joins.Reads as joins-reads
 use Rattle.table.proofs.header.Reads as header-reads
 use Rattle.table.proofs.item.Reads as item-reads
 
 abbrev Inv-loop : tie.InvT-loop
-Inv-loop t q met₀ seen₀ rows left₀ at₀ prev₀ met seen left at prev = ?
+Inv-loop t q met₀ seen₀ rows left₀ at₀ prev₀ met seen left at prev = (length met ≡ length met₀) × (length seen ≡ length seen₀) × (Rest q (regions q t) left at prev (column met) (column seen) ↔ Window q (regions q t))
 
 abbrev μ-loop : tie.MeasureT-loop
-μ-loop t q met₀ seen₀ rows left₀ at₀ prev₀ met seen left at prev = ?
+μ-loop t q met₀ seen₀ rows left₀ at₀ prev₀ met seen left at prev = left
 
--- src/lib.rt:82:16
 cast-rows : tie.Need-cast-rows Inv-loop μ-loop
-cast-rows c = ?
+cast-rows c = search needs
 
--- src/lib.rt:83:9
 header-requires : tie.Need-header-requires Inv-loop μ-loop
-header-requires c κs = ?
+header-requires c κs = search needs
 
--- src/lib.rt:84:9
 header-requires-2 : tie.Need-header-requires-2 Inv-loop μ-loop
-header-requires-2 c κs = ?
+header-requires-2 c κs = search needs
 
--- src/lib.rt:86:5
 loop-holds : tie.Need-loop-holds Inv-loop μ-loop
-loop-holds c = ?
+loop-holds c = (refl, refl, rw (c .before .header .ensures, c .header2 .ensures) (start _ _ _ _ _ _ _ (c .before .before .before .before .before .pre .1)))
 
--- src/lib.rt:88:13
 same-length : tie.Need-same-length Inv-loop μ-loop
-same-length c = ?
+same-length c = search needs
 
--- src/lib.rt:88:13
 same-length-2 : tie.Need-same-length-2 Inv-loop μ-loop
-same-length-2 c = ?
+same-length-2 c = search needs
 
--- src/lib.rt:88:13
 returns : tie.Need-returns Inv-loop μ-loop
-returns c = ?
+returns c = tells-no (λ w. let f = first _ _ _ _ _ _ _ (c .before .loop-test .taken) (c .before .before .loop .inv .2 .1 w) _ refl in omega (arith, f .row))
 
--- src/lib.rt:90:13
 item-requires : tie.Need-item-requires Inv-loop μ-loop
-item-requires c κs = ?
+item-requires c κs = search needs
 
--- src/lib.rt:92:13
 same-length-3 : tie.Need-same-length-3 Inv-loop μ-loop
-same-length-3 c = ?
+same-length-3 c = search needs
 
--- src/lib.rt:92:13
 same-length-4 : tie.Need-same-length-4 Inv-loop μ-loop
-same-length-4 c = ?
+same-length-4 c = search needs
 
--- src/lib.rt:92:13
 returns-2 : tie.Need-returns-2 Inv-loop μ-loop
-returns-2 c = ?
+returns-2 c = tells-no (λ w. let f = first _ _ _ _ _ _ _ (c .before .before .before .loop-test .taken) (c .before .before .before .before .loop .inv .2 .1 w) _ (c .before .item .ensures) in omega (arith, f .client))
 
--- src/lib.rt:94:17
 cast-i : tie.Need-cast-i Inv-loop μ-loop
-cast-i c = ?
+cast-i c = search needs
 
--- src/lib.rt:95:17
 mul-n : tie.Need-mul-n Inv-loop μ-loop
-mul-n c = ?
+mul-n c = search needs
 
--- src/lib.rt:95:17
 slice-read-n : tie.Need-slice-read-n Inv-loop μ-loop
-slice-read-n c = ?
+slice-read-n c = search needs
 
--- src/lib.rt:96:38
 mul-joins : tie.Need-mul-joins Inv-loop μ-loop
-mul-joins c = ?
+mul-joins c = search needs
 
--- src/lib.rt:96:38
 slice-read-joins : tie.Need-slice-read-joins Inv-loop μ-loop
-slice-read-joins c = ?
+slice-read-joins c = search needs
 
--- src/lib.rt:96:13
 joins-requires : tie.Need-joins-requires Inv-loop μ-loop
-joins-requires c κs = ?
+joins-requires c κs = search needs
 
--- src/lib.rt:97:13
 same-length-5 : tie.Need-same-length-5 Inv-loop μ-loop
-same-length-5 c = ?
+same-length-5 c = search needs
 
--- src/lib.rt:97:13
 same-length-6 : tie.Need-same-length-6 Inv-loop μ-loop
-same-length-6 c = ?
+same-length-6 c = search needs
 
--- src/lib.rt:97:13
 returns-3 : tie.Need-returns-3 Inv-loop μ-loop
-returns-3 c = ?
+returns-3 c = tells-no (λ w. refuted (c .before .joins .ensures) (not-true _ (c .if3 .taken)) (first _ _ _ _ _ _ _ (c .before .before .before .before .before .before .before .loop-test .taken) (c .before .before .before .before .before .before .before .before .loop .inv .2 .1 w) _ (c .before .before .before .before .before .item .ensures) .joins))
 
--- src/lib.rt:99:9
 mul-met : tie.Need-mul-met Inv-loop μ-loop
-mul-met c = ?
+mul-met c = search needs
 
--- src/lib.rt:99:9
 slice-write-met : tie.Need-slice-write-met Inv-loop μ-loop
-slice-write-met c = ?
+slice-write-met c = search needs
 
--- src/lib.rt:100:19
 add-seen : tie.Need-add-seen Inv-loop μ-loop
-add-seen c = ?
+add-seen c =
+    let j = c .before .joins .ensures .right (not-false _ (c .if3 .left)) in
+    let word = c .before .before .before .before .before .before .before .before .before .before .before .before .before .shared-slice-known .given (kind.clientAt (c .before .before .before .before .before .before .before .before .before .before .before .before .before .before .args .q) (c .before .before .before .before .before .item .result) kind.count) in
+    omega (arith, j .room)
 
--- src/lib.rt:100:9
 mul-seen : tie.Need-mul-seen Inv-loop μ-loop
-mul-seen c = ?
+mul-seen c = search needs
 
--- src/lib.rt:100:9
 slice-write-seen : tie.Need-slice-write-seen Inv-loop μ-loop
-slice-write-seen c = ?
+slice-write-seen c = search needs
 
--- src/lib.rt:102:9
 item-requires-2 : tie.Need-item-requires-2 Inv-loop μ-loop
-item-requires-2 c κs = ?
+item-requires-2 c κs = search needs
 
--- src/lib.rt:103:9
 sub-left : tie.Need-sub-left Inv-loop μ-loop
-sub-left c = ?
+sub-left c = search needs
 
--- src/lib.rt:86:5
 loop-less : tie.Need-loop-less Inv-loop μ-loop
-loop-less c = ?
+loop-less c = search needs
 
--- src/lib.rt:86:5
 loop-again : tie.Need-loop-again Inv-loop μ-loop
-loop-again c = ?
+loop-again c =
+    let i = c .before .before .before .before .before .before .before .before .before .loop .inv in
+    (simp length-set (i .0), simp length-set (i .1), Iff·trans (Iff·symm (turn-noted _ _ _ _ _ _ _ _ _ (search needs) (record { row = search needs; client = search needs; joins = c .before .before .joins .ensures .right (not-false _ (c .before .if3 .left)) }) (c .before .before .before .before .before .before .item .ensures) (c .item2 .ensures) (search needs) (search needs))) (i .2))
 
--- src/lib.rt:106:9
+finished-requires : tie.Need-finished-requires Inv-loop μ-loop
+finished-requires c κs = search needs
+
 same-length-7 : tie.Need-same-length-7 Inv-loop μ-loop
-same-length-7 c = ?
+same-length-7 c = search needs
 
--- src/lib.rt:106:9
 same-length-8 : tie.Need-same-length-8 Inv-loop μ-loop
-same-length-8 c = ?
+same-length-8 c = search needs
 
--- src/lib.rt:106:9
 returns-4 : tie.Need-returns-4 Inv-loop μ-loop
-returns-4 c = ?
-
--- src/lib.rt:108:16
-header-requires-3 : tie.Need-header-requires-3 Inv-loop μ-loop
-header-requires-3 c κs = ?
-
--- src/lib.rt:109:9
-same-length-9 : tie.Need-same-length-9 Inv-loop μ-loop
-same-length-9 c = ?
-
--- src/lib.rt:109:9
-same-length-10 : tie.Need-same-length-10 Inv-loop μ-loop
-same-length-10 c = ?
-
--- src/lib.rt:109:9
-returns-5 : tie.Need-returns-5 Inv-loop μ-loop
-returns-5 c = ?
-
--- src/lib.rt:111:5
-all-end-requires : tie.Need-all-end-requires Inv-loop μ-loop
-all-end-requires c κs = ?
-
--- src/lib.rt:77:1
-same-length-11 : tie.Need-same-length-11 Inv-loop μ-loop
-same-length-11 c = ?
-
--- src/lib.rt:77:1
-same-length-12 : tie.Need-same-length-12 Inv-loop μ-loop
-same-length-12 c = ?
-
--- src/lib.rt:77:1
-returns-6 : tie.Need-returns-6 Inv-loop μ-loop
-returns-6 c = ?
+returns-4 c = tells-so (Iff·trans (Iff·symm (done _ _ _ _ _ _ _ (c .before .before .before .loop-test .left))) (c .before .before .before .before .loop .inv .2)) (c .finished .ensures)
 
 pub follow-spec : {M : Type 1} → statement M
 follow-spec =
@@ -208,14 +164,7 @@ follow-spec =
     sub-left
     loop-less
     loop-again
+    finished-requires
     same-length-7
     same-length-8
-    returns-4
-    header-requires-3
-    same-length-9
-    same-length-10
-    returns-5
-    all-end-requires
-    same-length-11
-    same-length-12
-    returns-6)
+    returns-4)

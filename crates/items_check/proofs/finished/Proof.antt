@@ -1,5 +1,6 @@
--- Before turn r each row below r has ended.
+-- Before turn r the own lists of the rows below r have ended.
 use borrow.Author.Needs.{needs}
+use mathlib.Core.Path.{_∙_, sym}
 use Prim.Native.Nat.{ℕ, _<_, _-_}
 use native.Mathlib.Omega.{arith}
 use borrow.Author.Count.{below-more}
@@ -7,17 +8,27 @@ use borrow.Author.Tests.{not-true, not-false}
 use Rattle.table.specs.Regions.{regions}
 use Rattle.items_check.specs.Tells.{column, Ended}
 use Rattle.items_check.proofs.Answers.{tells-no, tells-yes, refuted}
-use Rattle.items_check.proofs.all_end.Statement.{statement}
-use Rattle.items_check.proofs.all_end.Tie as tie
-use Rattle.items_check.proofs.all_end.Reads as reads
-use Rattle.items_check.proofs.all_end.Lts as lts
+use Rattle.items_check.proofs.finished.Statement.{statement}
+use Rattle.items_check.proofs.finished.Tie as tie
+use Rattle.items_check.proofs.finished.Reads as reads
+use Rattle.items_check.proofs.finished.Lts as lts
 use Rattle.items_check.proofs.ends.Reads as ends-reads
+use Rattle.table.proofs.header.Reads as header-reads
 
 abbrev Inv-loop : tie.InvT-loop
-Inv-loop t q met seen r₀ r = (c : ℕ) → c < r → Ended q (regions q t) c (column met c) (column seen c)
+Inv-loop t q at prev met seen r₀ r = (c : ℕ) → c < r → Ended q (regions q t) c (column met c) (column seen c)
 
 abbrev μ-loop : tie.MeasureT-loop
-μ-loop t q met seen r₀ r = q - r
+μ-loop t q at prev met seen r₀ r = q - r
+
+returns : tie.Need-returns Inv-loop μ-loop
+returns c = tells-no (λ f. c .if1 .taken (f .none))
+
+header-requires : tie.Need-header-requires Inv-loop μ-loop
+header-requires c κs = search needs
+
+returns-2 : tie.Need-returns-2 Inv-loop μ-loop
+returns-2 c = tells-no (λ f. c .if2 .taken (f .back ∙ sym (c .before .header .ensures)))
 
 loop-holds : tie.Need-loop-holds Inv-loop μ-loop
 loop-holds c = λ i h. absurd (omega arith)
@@ -40,8 +51,8 @@ shared-slice-read-ends-2 c = search needs
 ends-requires : tie.Need-ends-requires Inv-loop μ-loop
 ends-requires c κs = search needs
 
-returns : tie.Need-returns Inv-loop μ-loop
-returns c = tells-no (λ a. refuted (c .before .ends .ensures) (not-true _ (c .if1 .taken)) (a _))
+returns-3 : tie.Need-returns-3 Inv-loop μ-loop
+returns-3 c = tells-no (λ f. refuted (c .before .ends .ensures) (not-true _ (c .if3 .taken)) (f .own _))
 
 add-r : tie.Need-add-r Inv-loop μ-loop
 add-r c = search needs
@@ -50,17 +61,20 @@ loop-less : tie.Need-loop-less Inv-loop μ-loop
 loop-less c = search needs
 
 loop-again : tie.Need-loop-again Inv-loop μ-loop
-loop-again c = below-more _ _ (c .before .before .before .before .before .loop .inv) (c .before .ends .ensures .right (not-false _ (c .if1 .left)))
+loop-again c = below-more _ _ (c .before .before .before .before .before .loop .inv) (c .before .ends .ensures .right (not-false _ (c .if3 .left)))
 
-returns-2 : tie.Need-returns-2 Inv-loop μ-loop
-returns-2 c = tells-yes (λ i w. c .before .loop .inv i (omega (arith, w .0)) w)
+returns-4 : tie.Need-returns-4 Inv-loop μ-loop
+returns-4 c = tells-yes (record { none = search needs; back = search needs; own = λ i w. c .before .loop .inv i (omega (arith, w .0)) w })
 
-pub all-end-spec : {M : Type 1} → statement M
-all-end-spec =
+pub finished-spec : {M : Type 1} → statement M
+finished-spec =
     tie.close
     (tie.spec
     Inv-loop
     μ-loop
+    returns
+    header-requires
+    returns-2
     loop-holds
     cast-ends
     mul-ends
@@ -68,8 +82,8 @@ all-end-spec =
     mul-ends-2
     shared-slice-read-ends-2
     ends-requires
-    returns
+    returns-3
     add-r
     loop-less
     loop-again
-    returns-2)
+    returns-4)
