@@ -2,3 +2,4 @@
 pub mod Answers
 pub mod Lists
 pub mod Turns
+pub mod Means

@@ -56,8 +56,9 @@ module _ (q : ℕ) (small : q ≤ kind.largest) (o : ℕ → ℕ) where
 
   pub chain-distinct : (h : ℕ) (xs : List ℕ) → Chain o h xs → Below q xs → Distinct xs
   chain-distinct h [] c b = tt
-  chain-distinct h (x ∷ xs) c b =
-      (notin x xs (λ i.
-          let r = chain-from (o x) xs x (c .1) (b .1) i in
-          omega (arith, one-chain x (x ∷ xs) (r .0) (refl, c .1) (r .1) b (r .2), r .3)),
-      chain-distinct (o x) xs (c .1) (b .1))
+  chain-distinct h (x ∷ xs) c b = (
+    notin x xs (λ i.
+        let r = chain-from (o x) xs x (c .1) (b .1) i in
+        omega (arith, one-chain x (x ∷ xs) (r .0) (refl, c .1) (r .1) b (r .2), r .3)),
+    chain-distinct (o x) xs (c .1) (b .1),
+  )

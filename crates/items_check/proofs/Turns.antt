@@ -2,11 +2,11 @@
 use mathlib.Core.List.{List, [], _∷_}
 use mathlib.Core.Bool.{Bool, true, false, cond}
 use mathlib.Core.Path.{_≡_, refl, sym, ap, _∙_, subst, fun-ext}
-use mathlib.Core.Logic.{_↔_, Iff·rfl}
+use mathlib.Core.Logic.{_↔_, Iff·rfl, Iff·symm, Iff·trans}
 use Prim.Native.Nat.{ℕ, suc, _+_, _-_, _≤_, _<_}
 use native.Mathlib.Omega.{arith}
 use lib.Dec.{eqb}
-use lib.ListN.{length, getD, set}
+use lib.ListN.{length, getD, set, replicate, length-replicate, getD-replicate}
 use lib.Seq.{getD-set-same, getD-set-other}
 use borrow.Author.Tests.{eq-eqb, ne-eqb, lt-ltb, le-ltb, eqb-true, eqb-false}
 use Rattle.table.specs.Kind as kind
@@ -99,12 +99,14 @@ module _ (q : ℕ) (R : Regions) where
         ends [] f = record { none = f .run .0; back = sym (f .run .1); own = f .own }
         ends (y ∷ ys) f = absurd (omega (arith, f .many))
 
-  -- the same turn as the code notes it
-  pub turn-noted : (k x prev : ℕ) (met seen : List ℕ) (c to : ℕ) → 0 < k → First k x prev (column met) (column seen) c → c ≡ R .item x kind.owner → to ≡ R .item x kind.later
-      → c < length met → c < length seen → Rest q R k x prev (column met) (column seen) ↔ Rest q R (k - 1) to x (column (set met c x)) (column (set seen c (column seen c + 1)))
-  turn-noted k x prev met seen c to h a ec et l m =
-      rw (noted-is met c x l, noted-is seen c (getD seen c 0 + 1) m, ec, et) (turn k x prev (column met) (column seen) h (rw ec at a))
+  -- the same as the code takes it, where all that is to be shown is W
+  pub turn-noted : (k x prev : ℕ) (met seen : List ℕ) {W : Type 0} → Rest q R k x prev (column met) (column seen) ↔ W → 0 < k
+      → (c : ℕ) → c ≡ R .item x kind.owner → First k x prev (column met) (column seen) c → c < length met → c < length seen → (to : ℕ) → to ≡ R .item x kind.later
+      → Rest q R (k - 1) to x (column (set met c x)) (column (set seen c (column seen c + 1))) ↔ W
+  turn-noted k x prev met seen w h c ec a l m to et =
+      rw (noted-is met c x l, noted-is seen c (getD seen c 0 + 1) m, ec, et) (Iff·trans (Iff·symm (turn k x prev (column met) (column seen) h (rw ec at a))) w)
 
+  -- before the first turn nothing is noted
   pub start : (k x prev : ℕ) (met seen : List ℕ) → Unmet q met seen → Rest q R k x prev (column met) (column seen) ↔ Rest q R k x prev (λ c. kind.none) (λ c. 0)
   start k x prev met seen u = (
     λ r. let f = r .1 in (r .0, record { many = f .many; below = f .below; run = f .run; owners = f .owners; own = λ c w. rw (u .nobody c (w .0), u .none-seen c (w .0)) at (f .own c w) }),
@@ -121,10 +123,10 @@ module _ (q : ℕ) (R : Regions) where
     pub first-free : 0 < m → Free q R m x → (x < q) × Idle R x
     first-free h r = let f = some-free h r .1 in (f .below .0, f .idle .0)
 
-    pub turn-free : 0 < m → x < q → Idle R x → Free q R m x ↔ Free q R (m - 1) (R .item x kind.later)
-    turn-free h b i = (
-      λ r. let f = some-free h r .1 in (some-free h r .0, record { many = omega (arith, f .many); below = f .below .1; chain = f .chain .1; idle = f .idle .1 }),
-      λ r. let f = r .1 in (x ∷ r .0, record { many = omega (arith, f .many); below = (b, f .below); chain = (refl, f .chain); idle = (i, f .idle) }),
+    pub turn-free : {W : Type 0} → Free q R m x ↔ W → 0 < m → x < q → Idle R x → (to : ℕ) → to ≡ R .item x kind.later → Free q R (m - 1) to ↔ W
+    turn-free w h b i to et = (
+      λ r. let f = r .1 in w .0 (x ∷ r .0, record { many = omega (arith, f .many); below = (b, f .below); chain = (refl, rw et at (f .chain)); idle = (i, f .idle) }),
+      λ v. let r = some-free h (w .1 v) in let f = r .1 in (r .0, record { many = omega (arith, f .many); below = f .below .1; chain = rw et (f .chain .1); idle = f .idle .1 }),
     )
 
     pub done-free : m ≤ 0 → Free q R m x ↔ (x ≡ kind.none)
@@ -133,3 +135,12 @@ module _ (q : ℕ) (R : Regions) where
         ends : (rows : List ℕ) → Frees q R m x rows → x ≡ kind.none
         ends [] f = f .chain
         ends (y ∷ ys) f = absurd (omega (arith, f .many))
+
+pub unmet : (q m : ℕ) → q ≤ m → Unmet q (replicate m kind.none) (replicate m 0)
+unmet q m h =
+    record {
+      met-room = rw length-replicate h;
+      seen-room = rw length-replicate h;
+      nobody = λ c l. getD-replicate m c kind.none 0 (omega arith);
+      none-seen = λ c l. getD-replicate m c 0 0 (omega arith);
+    }

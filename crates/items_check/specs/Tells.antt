@@ -92,3 +92,9 @@ pub record Frees (q : ℕ) (R : Regions) (m x : ℕ) (rows : List ℕ) : Type 0 
 
 abbrev pub Free : ℕ → Regions → ℕ → ℕ → Type 0
 Free q R m x = (rows : List ℕ) × Frees q R m x rows
+
+-- no more items wait than there are rows, the window is right, and the other rows are free
+pub record Whole (q : ℕ) (R : Regions) : Type 0 where
+  pub few : R .header kind.requestsAt ≤ q
+  pub window : Window q R
+  pub free : Free q R (q - R .header kind.requestsAt) (R .header kind.freeItemAt)

@@ -1,39 +1,32 @@
+-- Each test that fails rules out one part of `Whole`; the last one tells the rest.
+use native.Mathlib.Omega.{arith}
+use borrow.Author.Tests.{not-true, not-false}
+use Rattle.items_check.proofs.Answers.{tells-no, tells-so, refuted}
+use Rattle.items_check.proofs.Means.{checked-by}
 use borrow.Author.Needs.{needs}
 use Rattle.items_check.proofs.check_items.Statement.{statement}
 use Rattle.items_check.proofs.check_items.Tie as tie
-use Rattle.items_check.proofs.check_items.Reads as reads
-use Rattle.items_check.proofs.check_items.Lts as lts
-use Rattle.items_check.proofs.free.Reads as free-reads
-use Rattle.items_check.proofs.window.Reads as window-reads
-use Rattle.table.proofs.header.Reads as header-reads
 
--- src/lib.rt:173:13
 header-requires : tie.Need-header-requires
 header-requires c κs = search needs
 
--- src/lib.rt:173:13
 cast-n : tie.Need-cast-n
 cast-n c = search needs
 
--- src/lib.rt:175:9
 returns : tie.Need-returns
-returns c = ?
+returns c = checked-by _ _ _ (search needs) (tells-no (λ w. omega (arith, w .few)))
 
--- src/lib.rt:177:9
 window-requires : tie.Need-window-requires
 window-requires c κs = search needs
 
--- src/lib.rt:178:9
 returns-2 : tie.Need-returns-2
-returns-2 c = ?
+returns-2 c = checked-by _ _ _ (search needs) (tells-no (λ w. refuted (c .before .window .ensures) (not-true _ (c .if2 .taken)) (w .window)))
 
--- src/lib.rt:180:5
 free-requires : tie.Need-free-requires
 free-requires c κs = search needs
 
--- src/lib.rt:169:1
 returns-3 : tie.Need-returns-3
-returns-3 c = ?
+returns-3 c = checked-by _ _ _ (search needs) (tells-so (λ f. record { few = omega arith; window = c .before .before .window .ensures .right (not-false _ (c .before .if2 .left)); free = rw (c .before .before .before .before .header .ensures) at f }, λ w. rw (c .before .before .before .before .header .ensures) (w .free)) (c .free .ensures))
 
 pub check-items-spec : {M : Type 1} → statement M
 check-items-spec =

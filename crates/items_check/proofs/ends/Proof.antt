@@ -5,10 +5,6 @@ use Rattle.items_check.proofs.Answers.{tells-no, tells-equal}
 use borrow.Author.Needs.{needs}
 use Rattle.items_check.proofs.ends.Statement.{statement}
 use Rattle.items_check.proofs.ends.Tie as tie
-use Rattle.items_check.proofs.ends.Reads as reads
-use Rattle.items_check.proofs.ends.Lts as lts
-use Rattle.items_check.proofs.next_own.Reads as next-own-reads
-use Rattle.table.proofs.client.Reads as client-reads
 
 client-requires : tie.Need-client-requires
 client-requires c κs = search needs

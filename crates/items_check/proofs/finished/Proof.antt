@@ -10,10 +10,6 @@ use Rattle.items_check.specs.Tells.{column, Ended}
 use Rattle.items_check.proofs.Answers.{tells-no, tells-yes, refuted}
 use Rattle.items_check.proofs.finished.Statement.{statement}
 use Rattle.items_check.proofs.finished.Tie as tie
-use Rattle.items_check.proofs.finished.Reads as reads
-use Rattle.items_check.proofs.finished.Lts as lts
-use Rattle.items_check.proofs.ends.Reads as ends-reads
-use Rattle.table.proofs.header.Reads as header-reads
 
 abbrev Inv-loop : tie.InvT-loop
 Inv-loop t q at prev met seen r₀ r = (c : ℕ) → c < r → Ended q (regions q t) c (column met c) (column seen c)

@@ -12,12 +12,6 @@ use Rattle.items_check.proofs.Answers.{tells-no, tells-so, refuted}
 use Rattle.items_check.proofs.Turns.{First, first, turn-noted, done, start}
 use Rattle.items_check.proofs.follow.Statement.{statement}
 use Rattle.items_check.proofs.follow.Tie as tie
-use Rattle.items_check.proofs.follow.Reads as reads
-use Rattle.items_check.proofs.follow.Lts as lts
-use Rattle.items_check.proofs.finished.Reads as finished-reads
-use Rattle.items_check.proofs.joins.Reads as joins-reads
-use Rattle.table.proofs.header.Reads as header-reads
-use Rattle.table.proofs.item.Reads as item-reads
 
 abbrev Inv-loop : tie.InvT-loop
 Inv-loop t q met₀ seen₀ rows left₀ at₀ prev₀ met seen left at prev = (length met ≡ length met₀) × (length seen ≡ length seen₀) × (Rest q (regions q t) left at prev (column met) (column seen) ↔ Window q (regions q t))
@@ -114,8 +108,13 @@ loop-less c = search needs
 
 loop-again : tie.Need-loop-again Inv-loop μ-loop
 loop-again c =
-    let i = c .before .before .before .before .before .before .before .before .before .loop .inv in
-    (simp length-set (i .0), simp length-set (i .1), Iff·trans (Iff·symm (turn-noted _ _ _ _ _ _ _ _ _ (search needs) (record { row = search needs; client = search needs; joins = c .before .before .joins .ensures .right (not-false _ (c .before .if3 .left)) }) (c .before .before .before .before .before .before .item .ensures) (c .item2 .ensures) (search needs) (search needs))) (i .2))
+    let l = c .before .before .before .before .before .before .before .before .before .loop in (
+      simp length-set (l .inv .0),
+      simp length-set (l .inv .1),
+      turn-noted _ _ _ _ _ (l .met) (l .seen) (l .inv .2) (search needs) _ (c .before .before .before .before .before .before .item .ensures)
+          (record { row = search needs; client = search needs; joins = c .before .before .joins .ensures .right (not-false _ (c .before .if3 .left)) })
+          (search needs) (search needs) _ (c .item2 .ensures),
+    )
 
 finished-requires : tie.Need-finished-requires Inv-loop μ-loop
 finished-requires c κs = search needs

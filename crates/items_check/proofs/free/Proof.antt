@@ -10,11 +10,6 @@ use Rattle.items_check.proofs.Answers.{tells-no, tells-equal, refuted}
 use Rattle.items_check.proofs.Turns.{first-free, turn-free, done-free}
 use Rattle.items_check.proofs.free.Statement.{statement}
 use Rattle.items_check.proofs.free.Tie as tie
-use Rattle.items_check.proofs.free.Reads as reads
-use Rattle.items_check.proofs.free.Lts as lts
-use Rattle.items_check.proofs.idle.Reads as idle-reads
-use Rattle.table.proofs.header.Reads as header-reads
-use Rattle.table.proofs.item.Reads as item-reads
 
 abbrev Inv-loop : tie.InvT-loop
 Inv-loop t q m rows left₀ at₀ left at = Free q (regions q t) left at ↔ Free q (regions q t) m (regions q t .header kind.freeItemAt)
@@ -50,7 +45,7 @@ loop-less : tie.Need-loop-less Inv-loop μ-loop
 loop-less c = search needs
 
 loop-again : tie.Need-loop-again Inv-loop μ-loop
-loop-again c = rw (c .item .ensures) (Iff·trans (Iff·symm (turn-free _ _ _ _ (search needs) (search needs) (c .before .before .idle .ensures .right (not-false _ (c .before .if2 .left))))) (c .before .before .before .before .before .loop .inv))
+loop-again c = turn-free _ _ _ _ (c .before .before .before .before .before .loop .inv) (search needs) (search needs) (c .before .before .idle .ensures .right (not-false _ (c .before .if2 .left))) _ (c .item .ensures)
 
 returns-3 : tie.Need-returns-3 Inv-loop μ-loop
 returns-3 c = let d = Iff·trans (Iff·symm (done-free _ _ _ _ (c .loop-test .left))) (c .before .loop .inv) in tells-equal _ _ (d .0) (d .1)

@@ -10,9 +10,6 @@ use Rattle.table.specs.Regions.{regions}
 use Rattle.items_check.proofs.Answers.{tells-no, tells-yes}
 use Rattle.items_check.proofs.idle.Statement.{statement}
 use Rattle.items_check.proofs.idle.Tie as tie
-use Rattle.items_check.proofs.idle.Reads as reads
-use Rattle.items_check.proofs.idle.Lts as lts
-use Rattle.table.proofs.item.Reads as item-reads
 
 abbrev Inv-loop : tie.InvT-loop
 Inv-loop t q r f₀ f = (g : ℕ) → g < f → (g ≡ kind.later → ⊥) → regions q t .item r g ≡ 0

@@ -5,11 +5,6 @@ use Rattle.items_check.proofs.Answers.{tells-no, tells-equal}
 use borrow.Author.Needs.{needs}
 use Rattle.items_check.proofs.joins.Statement.{statement}
 use Rattle.items_check.proofs.joins.Tie as tie
-use Rattle.items_check.proofs.joins.Reads as reads
-use Rattle.items_check.proofs.joins.Lts as lts
-use Rattle.items_check.proofs.next_own.Reads as next-own-reads
-use Rattle.table.proofs.client.Reads as client-reads
-use Rattle.table.proofs.item.Reads as item-reads
 
 item-requires : tie.Need-item-requires
 item-requires c κs = search needs

@@ -4,10 +4,6 @@ use Rattle.items_check.proofs.Turns.{next-later, next-oldest}
 use borrow.Author.Needs.{needs}
 use Rattle.items_check.proofs.next_own.Statement.{statement}
 use Rattle.items_check.proofs.next_own.Tie as tie
-use Rattle.items_check.proofs.next_own.Reads as reads
-use Rattle.items_check.proofs.next_own.Lts as lts
-use Rattle.table.proofs.client.Reads as client-reads
-use Rattle.table.proofs.item.Reads as item-reads
 
 item-requires : tie.Need-item-requires
 item-requires c κs = search needs
