@@ -7,28 +7,28 @@ use Prim.Native.Nat.{ℕ, _+_, _-_, _≤_, _<_}
 use native.Mathlib.Omega.{arith}
 use lib.Dec.{eqb, lit<}
 use lib.ListN.{length, length-append, length-map}
-use borrow.Author.Tests.{eq-eqb, eqb-true, eqb-false}
+use borrow.Author.Tests.{eqb-true, eqb-false}
 use Rattle.table.specs.Kind as kind
 use Rattle.table.specs.Regions.{Regions, Sized, regions}
 use Rattle.rules.specs.Rows.{In, All, Distinct, Below, Once}
-use Rattle.rules.specs.Linked.{Run, Linked, window, own}
+use Rattle.rules.specs.Linked.{Run, own}
 use Rattle.rules.specs.Picture.{Item, itemRow, ownRows}
 use Rattle.rules.specs.Parts.{Own}
-use Rattle.rules.proofs.Rows.{in-either, distinct-both, in-below, below-in, below-right, past, head-any, last-any, all-so, all-both, all-in, in-all}
+use Rattle.rules.proofs.Rows.{in-either, distinct-both, in-below, below-in, below-right, past, head-any, last-any, all-both, all-in, in-all}
 use Rattle.rules.proofs.Linked.{run-head, run-last}
 use Rattle.items_check.specs.Items.{Known, Items, Checked}
-use Rattle.items_check.specs.Tells.{Tells, shown, ownOf, Waits, Ends, Follows, Idle, Frees, Whole}
+use Rattle.items_check.specs.Tells.{Tells, shownItem, ownOf, Waits, Owned, OwnRest, Follows, Idle, Frees, Whole}
 use Rattle.items_check.proofs.Lists.{run-distinct, between, chain-distinct}
-use Rattle.items_check.proofs.Turns.{next-oldest}
+use Rattle.items_check.proofs.WindowTurns.{next-oldest}
 
 -- rows and what they show
 
-all-map : {A B : Type 0} (F : B → Type 0) (f : A → B) (xs : List A) → All (λ x. F (f x)) xs → All F (map f xs)
-all-map F f [] a = tt
-all-map F f (x ∷ xs) a = (a .0, all-map F f xs (a .1))
+all-map : {A B : Type 0} (G : A → Type 0) (F : B → Type 0) (f : A → B) (xs : List A) → ((x : A) → G x → F (f x)) → All G xs → All F (map f xs)
+all-map G F f [] h a = tt
+all-map G F f (x ∷ xs) h a = (h x (a .0), all-map G F f xs h (a .1))
 
 module _ (R : Regions) where
-  rows-shown : (rows : List ℕ) → map itemRow (map (shown R) rows) ≡ rows
+  rows-shown : (rows : List ℕ) → map itemRow (map (shownItem R) rows) ≡ rows
   rows-shown [] = refl
   rows-shown (x ∷ xs) = ap (λ (l : List ℕ). x ∷ l) (rows-shown xs)
 
@@ -52,7 +52,7 @@ module _ (R : Regions) where
       go true e f = ⊎-elim (λ z. inl z) (λ j. inr (f j)) i
       go false e f = ⊎-elim (λ z. absurd (eqb-false _ _ e (ap (λ (k : ℕ). R .item k kind.owner) (sym z)))) f i
 
-  own-none : (q c : ℕ) (rows : List ℕ) → All (λ r. Waits q R (R .item r kind.owner)) rows → R .client c kind.count ≡ 0 → ownOf R c rows ≡ []
+  own-none : (q c : ℕ) (rows : List ℕ) → All (Owned q R) rows → R .client c kind.count ≡ 0 → ownOf R c rows ≡ []
   own-none q c [] a n = refl
   own-none q c (x ∷ xs) a n = go (eqb (R .item x kind.owner) c) refl (own-none q c xs (a .1) n)
     where
@@ -98,37 +98,41 @@ module _ (q : ℕ) (R : Regions) (small : q ≤ kind.largest) (cs : List ℕ) (K
     apart : (r : ℕ) → In r rows → In r free → ⊥
     apart r i j =
         let c = R .item r kind.owner in
-        let l = own-list c (all-in (λ x. Waits q R (R .item x kind.owner)) rows (f .owners) r i .0) .linked in
+        let l = own-list c (all-in (Owned q R) rows (f .owners) r i .0) .linked in
         let z = all-in (Idle R) free (g .idle) r j in
         between _ _ kind.none _ (ownOf R c rows) kind.none _ r 0 (l .run) (past q kind.none (ownOf R c rows) (omega arith) (l .below)) (l .distinct) (λ e. omega (arith, e)) (own-in R r rows i)
         (z kind.ownEarlier (lit< tt) (λ e. omega (arith, e))) (z kind.ownLater (lit< tt) (λ e. omega (arith, e)))
 
+    once : R .header kind.requestsAt ≤ q → Once q (rows ++ free)
+    once few =
+        record {
+          distinct = distinct-both rows free (distinct _ _ _ rows _ (f .below) (f .run)) (chain-distinct q small (λ r. R .item r kind.later) _ free (g .chain) (g .below)) apart;
+          below = below-in q (rows ++ free) (λ r i. ⊎-elim (in-below q rows (f .below) r) (in-below q free (g .below) r) (in-either r rows free i));
+          long = rw length-append (omega (arith, f .many, g .many));
+        }
+
     items : R .header kind.requestsAt ≤ q → Items q R cs
     items few =
-        let w = map (shown R) rows in
+        let shows : (F : Item → Type 0) → ((r : ℕ) → Owned q R r → F (shownItem R r)) → All F (map (shownItem R) rows) = λ F h. all-map (Owned q R) F (shownItem R) rows h (f .owners) in
         record {
-          w = w;
+          w = map (shownItem R) rows;
           free = free;
           queued = record {
-            waiting = sym (length-map rows (shown R) ∙ f .many);
+            waiting = sym (length-map rows (shownItem R) ∙ f .many);
             window = rw (rows-shown R rows) (record { run = f .run; distinct = distinct _ _ _ rows _ (f .below) (f .run); below = f .below });
-            owner = all-map (λ i. R .item (i .row) kind.owner ≡ i .client) (shown R) rows (in-all (λ r. R .item r kind.owner ≡ R .item r kind.owner) rows (λ r i. refl));
-            ticket = all-map (λ i. R .item (i .row) kind.ticket ≡ i .ticket) (shown R) rows (in-all (λ r. R .item r kind.ticket ≡ R .item r kind.ticket) rows (λ r i. refl));
-            owners = all-map (λ i. i .client < q) (shown R) rows (all-so (λ r. Waits q R (R .item r kind.owner)) (λ r. R .item r kind.owner < q) rows (λ r v. v .0) (f .owners));
+            owner = shows (λ i. R .item (i .row) kind.owner ≡ i .client) (λ r o. refl);
+            ticket = shows (λ i. R .item (i .row) kind.ticket ≡ i .ticket) (λ r o. refl);
+            owners = shows (λ i. i .client < q) (λ r o. o .0);
             own = own-list;
-            each = rw (rows-shown R rows)
-                (record {
-                  distinct = distinct-both rows free (distinct _ _ _ rows _ (f .below) (f .run)) (chain-distinct q small (λ r. R .item r kind.later) _ free (g .chain) (g .below)) apart;
-                  below = below-in q (rows ++ free) (λ r i. ⊎-elim (in-below q rows (f .below) r) (in-below q free (g .below) r) (in-either r rows free i));
-                  long = rw length-append (omega (arith, f .many, g .many));
-                });
+            each = rw (rows-shown R rows) (once few);
             chain = g .chain;
-            idle = λ r i. all-in (Idle R) free (g .idle) r i;
+            idle = all-in (Idle R) free (g .idle);
           };
-          owners = all-map (λ i. In (i .client) cs) (shown R) rows (all-so (λ r. Waits q R (R .item r kind.owner)) (λ r. In (R .item r kind.owner) cs) rows (λ r v. K .others (R .item r kind.owner) (v .0) (v .1)) (f .owners));
+          owners = shows (λ i. In (i .client) cs) (λ r o. K .others (R .item r kind.owner) (o .0) (o .1));
           counts = λ c i. omega (arith, f .own c (waits c i) .count);
         }
 
+  -- the items are right
   whole : Items q R cs → Whole q R
   whole I =
       let Q = I .queued in
@@ -136,7 +140,7 @@ module _ (q : ℕ) (R : Regions) (small : q ≤ kind.largest) (cs : List ℕ) (K
       let rows = map itemRow w in
       let many : length rows ≡ R .header kind.requestsAt = length-map w itemRow ∙ sym (Q .waiting) in
       let long : length rows + length (I .free) ≡ q = sym (length-append rows (I .free)) ∙ Q .each .long in
-      let ends : (c : ℕ) → Waits q R c → Ends q R c kind.none 0 (ownOf R c rows) = λ c v.
+      let ends : (c : ℕ) → Waits q R c → OwnRest q R c kind.none 0 (ownOf R c rows) = λ c v.
       let xs = ownRows c w in
       let o = Q .own c (v .0) in
       let n = I .counts c (K .others c (v .0) (v .1)) in
@@ -150,7 +154,7 @@ module _ (q : ℕ) (R : Regions) (small : q ≤ kind.largest) (cs : List ℕ) (K
             many = many;
             below = Q .window .below;
             run = Q .window .run;
-            owners = all-map (λ r. Waits q R (R .item r kind.owner)) itemRow w (all-both (λ i. R .item (i .row) kind.owner ≡ i .client) (λ i. In (i .client) cs) (λ i. Waits q R (R .item (i .row) kind.owner)) w (λ i e m. rw e (waits (i .client) m)) (Q .owner) (I .owners));
+            owners = all-map (λ i. Owned q R (i .row)) (Owned q R) itemRow w (λ i o. o) (all-both (λ i. R .item (i .row) kind.owner ≡ i .client) (λ i. In (i .client) cs) (λ i. Owned q R (i .row)) w (λ i e m. rw e (waits (i .client) m)) (Q .owner) (I .owners));
             own = ends;
           },
         );

@@ -1,5 +1,5 @@
 -- What each part of the check tells. The walk of the window follows every client's own list beside it: what it has met of one is its last item and how many.
-use mathlib.Core.List.{List, [], _∷_, map}
+use mathlib.Core.List.{List, [], map}
 use mathlib.Core.Bool.{Bool, true, cond}
 use mathlib.Core.Path.{_≡_}
 use Prim.Native.Nat.{ℕ, _+_, _-_, _≤_, _<_}
@@ -21,15 +21,18 @@ abbrev pub column : List ℕ → ℕ → ℕ
 column xs = λ c. getD xs c 0
 
 -- the item that row r shows, and those of the rows that show client c
-abbrev pub shown : Regions → ℕ → Item
-shown R r = item r (R .item r kind.owner) (R .item r kind.ticket)
+abbrev pub shownItem : Regions → ℕ → Item
+shownItem R r = item r (R .item r kind.owner) (R .item r kind.ticket)
 
 abbrev pub ownOf : Regions → ℕ → List ℕ → List ℕ
-ownOf R c rows = ownRows c (map (shown R) rows)
+ownOf R c rows = ownRows c (map (shownItem R) rows)
 
--- row c is a client's
+-- row c is a client's; so is the one that item row r names
 abbrev pub Waits : ℕ → Regions → ℕ → Type 0
 Waits q R c = (c < q) × (R .client c kind.count ≡ 0 → ⊥)
+
+abbrev pub Owned : ℕ → Regions → ℕ → Type 0
+Owned q R r = Waits q R (R .item r kind.owner)
 
 -- the item that client c has after p, or its oldest where p is no row
 unfoldable pub nextOwn : ℕ → Regions → ℕ → ℕ → ℕ
@@ -43,27 +46,27 @@ pub record Joins (q : ℕ) (R : Regions) (x prev c p n : ℕ) : Type 0 where
   pub next : nextOwn q R c p ≡ x
 
 -- after p, the n-th, the own list of client c has the rows xs, up to its newest and its count
-pub record Ends (q : ℕ) (R : Regions) (c p n : ℕ) (xs : List ℕ) : Type 0 where
+pub record OwnRest (q : ℕ) (R : Regions) (c p n : ℕ) (xs : List ℕ) : Type 0 where
   pub run : Run (own c R .back) (own c R .on) p (nextOwn q R c p) xs kind.none (R .client c kind.newest)
   pub count : n + length xs ≡ R .client c kind.count
 
 -- with p, the n-th, the own list of client c ends, or row c is no client's
-abbrev pub Ended : ℕ → Regions → ℕ → ℕ → ℕ → Type 0
-Ended q R c p n = Waits q R c → Ends q R c p n []
+abbrev pub OwnEnds : ℕ → Regions → ℕ → ℕ → ℕ → Type 0
+OwnEnds q R c p n = Waits q R c → OwnRest q R c p n []
 
 -- with no row left at x, the window ends with prev, and each own list with what was met of it
 pub record Finished (q : ℕ) (R : Regions) (x prev : ℕ) (met seen : ℕ → ℕ) : Type 0 where
   pub none : x ≡ kind.none
   pub back : prev ≡ R .header kind.backAt
-  pub own : (c : ℕ) → Ended q R c (met c) (seen c)
+  pub own : (c : ℕ) → OwnEnds q R c (met c) (seen c)
 
 -- after prev the window has k rows from pointer x on, up to the back; and the own list of each client c, after met c, has those of its rows
 pub record Follows (q : ℕ) (R : Regions) (k x prev : ℕ) (met seen : ℕ → ℕ) (rows : List ℕ) : Type 0 where
   pub many : length rows ≡ k
   pub below : Below q rows
   pub run : Run (window R .back) (window R .on) prev x rows kind.none (R .header kind.backAt)
-  pub owners : All (λ r. Waits q R (R .item r kind.owner)) rows
-  pub own : (c : ℕ) → Waits q R c → Ends q R c (met c) (seen c) (ownOf R c rows)
+  pub owners : All (Owned q R) rows
+  pub own : (c : ℕ) → Waits q R c → OwnRest q R c (met c) (seen c) (ownOf R c rows)
 
 abbrev pub Rest : ℕ → Regions → ℕ → ℕ → ℕ → (ℕ → ℕ) → (ℕ → ℕ) → Type 0
 Rest q R k x prev met seen = (rows : List ℕ) × Follows q R k x prev met seen rows

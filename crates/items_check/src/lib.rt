@@ -5,8 +5,11 @@ ghost use lib.ListN.{length};
 ghost use Rattle.table.specs.Kind as kind;
 ghost use Rattle.table.specs.Regions.{Sized, regions};
 ghost use Rattle.items_check.specs.Items.{Checked};
-ghost use Rattle.items_check.specs.Tells.{Tells, column, nextOwn, Joins, Ended, Finished, Window, Unmet, Idle, Free};
+ghost use Rattle.items_check.specs.Tells.{Tells, column, nextOwn, Joins, OwnEnds, Finished, Window, Unmet, Idle, Free};
 use table::LinkedTable;
+
+// Up to this size a table is checked in little room: clearing the most takes longer than all of its check.
+const SMALL: usize = 64;
 
 // The item that client c has after p, or its oldest where p is no row.
 fn next_own(t: &[u32], q: usize, c: u32, p: u32) -> u32
@@ -39,10 +42,10 @@ fn joins(t: &[u32], q: usize, x: u32, prev: u32, c: u32, p: u32, n: u32) -> bool
 }
 
 // The own list of client c ends with p, the n-th; a row without a count has none.
-fn ends(t: &[u32], q: usize, c: u32, p: u32, n: u32) -> bool
+fn own_ends(t: &[u32], q: usize, c: u32, p: u32, n: u32) -> bool
     requires { ⌜ Sized q (now t) ⌝ }
     requires { ⌜ c < q ⌝ }
-    ensures { λ ok. ⌜ Tells ok (Ended q (regions q (now (t .entry))) c p n) ⌝ }
+    ensures { λ ok. ⌜ Tells ok (OwnEnds q (regions q (now (t .entry))) c p n) ⌝ }
 {
     let count = table::client(t, q, c, LinkedTable::WAITING);
     if count == 0 {
@@ -71,7 +74,7 @@ fn finished(t: &[u32], q: usize, at: u32, prev: u32, met: &[u32], seen: &[u32]) 
     }
     let mut r: usize = 0;
     while r < q {
-        if !ends(t, q, r as u32, met[r], seen[r]) {
+        if !own_ends(t, q, r as u32, met[r], seen[r]) {
             return false;
         }
         r += 1;
@@ -111,14 +114,14 @@ fn follow(t: &[u32], q: usize, met: &mut [u32], seen: &mut [u32]) -> bool
     finished(t, q, at, prev, met, seen)
 }
 
-// The same, noted here: in little room for a small table, since clearing much takes longer than all of its check.
+// The same, noted here.
 fn window(t: &[u32], q: usize) -> bool
     requires { ⌜ Sized q (now t) ⌝ }
     ensures { λ ok. ⌜ Tells ok (Window q (regions q (now (t .entry)))) ⌝ }
 {
-    if q <= 64 {
-        let mut met = [LinkedTable::NONE; 64];
-        let mut seen = [0u32; 64];
+    if q <= SMALL {
+        let mut met = [LinkedTable::NONE; SMALL];
+        let mut seen = [0u32; SMALL];
         return follow(t, q, &mut met, &mut seen);
     }
     let mut met = [LinkedTable::NONE; LinkedTable::LARGEST];

@@ -4,15 +4,14 @@ use mathlib.Core.Path.{_∙_, sym}
 use Prim.Native.Nat.{ℕ, _<_, _-_}
 use native.Mathlib.Omega.{arith}
 use borrow.Author.Count.{below-more}
-use borrow.Author.Tests.{not-true, not-false}
 use Rattle.table.specs.Regions.{regions}
-use Rattle.items_check.specs.Tells.{column, Ended}
-use Rattle.items_check.proofs.Answers.{tells-no, tells-yes, refuted}
+use Rattle.items_check.specs.Tells.{column, OwnEnds}
+use Rattle.items_check.proofs.Answers.{tells-no, tells-yes, refuted, told}
 use Rattle.items_check.proofs.finished.Statement.{statement}
 use Rattle.items_check.proofs.finished.Tie as tie
 
 abbrev Inv-loop : tie.InvT-loop
-Inv-loop t q at prev met seen r₀ r = (c : ℕ) → c < r → Ended q (regions q t) c (column met c) (column seen c)
+Inv-loop t q at prev met seen r₀ r = (c : ℕ) → c < r → OwnEnds q (regions q t) c (column met c) (column seen c)
 
 abbrev μ-loop : tie.MeasureT-loop
 μ-loop t q at prev met seen r₀ r = q - r
@@ -29,26 +28,26 @@ returns-2 c = tells-no (λ f. c .if2 .taken (f .back ∙ sym (c .before .header 
 loop-holds : tie.Need-loop-holds Inv-loop μ-loop
 loop-holds c = λ i h. absurd (omega arith)
 
-cast-ends : tie.Need-cast-ends Inv-loop μ-loop
-cast-ends c = search needs
+cast-own-ends : tie.Need-cast-own-ends Inv-loop μ-loop
+cast-own-ends c = search needs
 
-mul-ends : tie.Need-mul-ends Inv-loop μ-loop
-mul-ends c = search needs
+mul-own-ends : tie.Need-mul-own-ends Inv-loop μ-loop
+mul-own-ends c = search needs
 
-shared-slice-read-ends : tie.Need-shared-slice-read-ends Inv-loop μ-loop
-shared-slice-read-ends c = search needs
+shared-slice-read-own-ends : tie.Need-shared-slice-read-own-ends Inv-loop μ-loop
+shared-slice-read-own-ends c = search needs
 
-mul-ends-2 : tie.Need-mul-ends-2 Inv-loop μ-loop
-mul-ends-2 c = search needs
+mul-own-ends-2 : tie.Need-mul-own-ends-2 Inv-loop μ-loop
+mul-own-ends-2 c = search needs
 
-shared-slice-read-ends-2 : tie.Need-shared-slice-read-ends-2 Inv-loop μ-loop
-shared-slice-read-ends-2 c = search needs
+shared-slice-read-own-ends-2 : tie.Need-shared-slice-read-own-ends-2 Inv-loop μ-loop
+shared-slice-read-own-ends-2 c = search needs
 
-ends-requires : tie.Need-ends-requires Inv-loop μ-loop
-ends-requires c κs = search needs
+own-ends-requires : tie.Need-own-ends-requires Inv-loop μ-loop
+own-ends-requires c κs = search needs
 
 returns-3 : tie.Need-returns-3 Inv-loop μ-loop
-returns-3 c = tells-no (λ f. refuted (c .before .ends .ensures) (not-true _ (c .if3 .taken)) (f .own _))
+returns-3 c = tells-no (λ f. refuted (c .before .own-ends .ensures) (c .if3 .taken) (f .own _))
 
 add-r : tie.Need-add-r Inv-loop μ-loop
 add-r c = search needs
@@ -57,7 +56,7 @@ loop-less : tie.Need-loop-less Inv-loop μ-loop
 loop-less c = search needs
 
 loop-again : tie.Need-loop-again Inv-loop μ-loop
-loop-again c = below-more _ _ (c .before .before .before .before .before .loop .inv) (c .before .ends .ensures .right (not-false _ (c .if3 .left)))
+loop-again c = below-more _ _ (c .before .before .before .before .before .loop .inv) (told (c .before .own-ends .ensures) (c .if3 .left))
 
 returns-4 : tie.Need-returns-4 Inv-loop μ-loop
 returns-4 c = tells-yes (record { none = search needs; back = search needs; own = λ i w. c .before .loop .inv i (omega (arith, w .0)) w })
@@ -72,12 +71,12 @@ finished-spec =
     header-requires
     returns-2
     loop-holds
-    cast-ends
-    mul-ends
-    shared-slice-read-ends
-    mul-ends-2
-    shared-slice-read-ends-2
-    ends-requires
+    cast-own-ends
+    mul-own-ends
+    shared-slice-read-own-ends
+    mul-own-ends-2
+    shared-slice-read-own-ends-2
+    own-ends-requires
     returns-3
     add-r
     loop-less

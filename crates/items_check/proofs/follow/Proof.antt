@@ -1,15 +1,14 @@
 -- Before each turn what is left to show of the window and the own lists is what was to be shown at first; the notes keep their lengths.
 use borrow.Author.Needs.{needs}
-use mathlib.Core.Path.{_≡_, refl, sym, _∙_}
+use mathlib.Core.Path.{_≡_, refl}
 use mathlib.Core.Logic.{_↔_, Iff·trans, Iff·symm}
 use native.Mathlib.Omega.{arith}
 use lib.ListN.{length, length-set}
-use borrow.Author.Tests.{not-true, not-false}
 use Rattle.table.specs.Kind as kind
 use Rattle.table.specs.Regions.{regions}
 use Rattle.items_check.specs.Tells.{column, Rest, Window}
-use Rattle.items_check.proofs.Answers.{tells-no, tells-so, refuted}
-use Rattle.items_check.proofs.Turns.{First, first, turn-noted, done, start}
+use Rattle.items_check.proofs.Answers.{tells-no, tells-so, refuted, told}
+use Rattle.items_check.proofs.WindowTurns.{first, done, start, turn-noted}
 use Rattle.items_check.proofs.follow.Statement.{statement}
 use Rattle.items_check.proofs.follow.Tie as tie
 
@@ -50,7 +49,8 @@ same-length-4 : tie.Need-same-length-4 Inv-loop μ-loop
 same-length-4 c = search needs
 
 returns-2 : tie.Need-returns-2 Inv-loop μ-loop
-returns-2 c = tells-no (λ w. let f = first _ _ _ _ _ _ _ (c .before .before .before .loop-test .taken) (c .before .before .before .before .loop .inv .2 .1 w) _ (c .before .item .ensures) in omega (arith, f .client))
+returns-2 c =
+    tells-no (λ w. let f = first _ _ _ _ _ _ _ (c .before .before .before .loop-test .taken) (c .before .before .before .before .loop .inv .2 .1 w) _ (c .before .item .ensures) in omega (arith, f .client))
 
 cast-i : tie.Need-cast-i Inv-loop μ-loop
 cast-i c = search needs
@@ -77,7 +77,8 @@ same-length-6 : tie.Need-same-length-6 Inv-loop μ-loop
 same-length-6 c = search needs
 
 returns-3 : tie.Need-returns-3 Inv-loop μ-loop
-returns-3 c = tells-no (λ w. refuted (c .before .joins .ensures) (not-true _ (c .if3 .taken)) (first _ _ _ _ _ _ _ (c .before .before .before .before .before .before .before .loop-test .taken) (c .before .before .before .before .before .before .before .before .loop .inv .2 .1 w) _ (c .before .before .before .before .before .item .ensures) .joins))
+returns-3 c =
+    tells-no (λ w. refuted (c .before .joins .ensures) (c .if3 .taken) (first _ _ _ _ _ _ _ (c .before .before .before .before .before .before .before .loop-test .taken) (c .before .before .before .before .before .before .before .before .loop .inv .2 .1 w) _ (c .before .before .before .before .before .item .ensures) .joins))
 
 mul-met : tie.Need-mul-met Inv-loop μ-loop
 mul-met c = search needs
@@ -87,9 +88,8 @@ slice-write-met c = search needs
 
 add-seen : tie.Need-add-seen Inv-loop μ-loop
 add-seen c =
-    let j = c .before .joins .ensures .right (not-false _ (c .if3 .left)) in
     let word = c .before .before .before .before .before .before .before .before .before .before .before .before .before .shared-slice-known .given (kind.clientAt (c .before .before .before .before .before .before .before .before .before .before .before .before .before .before .args .q) (c .before .before .before .before .before .item .result) kind.count) in
-    omega (arith, j .room)
+    omega (arith, told (c .before .joins .ensures) (c .if3 .left) .room)
 
 mul-seen : tie.Need-mul-seen Inv-loop μ-loop
 mul-seen c = search needs
@@ -111,8 +111,8 @@ loop-again c =
     let l = c .before .before .before .before .before .before .before .before .before .loop in (
       simp length-set (l .inv .0),
       simp length-set (l .inv .1),
-      turn-noted _ _ _ _ _ (l .met) (l .seen) (l .inv .2) (search needs) _ (c .before .before .before .before .before .before .item .ensures)
-          (record { row = search needs; client = search needs; joins = c .before .before .joins .ensures .right (not-false _ (c .before .if3 .left)) })
+      turn-noted _ _ _ _ (l .met) (l .seen) _ (l .inv .2) (search needs) _ (c .before .before .before .before .before .before .item .ensures)
+          (record { row = search needs; client = search needs; joins = told (c .before .before .joins .ensures) (c .before .if3 .left) })
           (search needs) (search needs) _ (c .item2 .ensures),
     )
 

@@ -2,12 +2,11 @@
 use borrow.Author.Needs.{needs}
 use native.Mathlib.Omega.{arith}
 use mathlib.Core.Logic.{_↔_, Iff·rfl, Iff·trans, Iff·symm}
-use borrow.Author.Tests.{not-true, not-false}
 use Rattle.table.specs.Kind as kind
 use Rattle.table.specs.Regions.{regions}
 use Rattle.items_check.specs.Tells.{Free}
-use Rattle.items_check.proofs.Answers.{tells-no, tells-equal, refuted}
-use Rattle.items_check.proofs.Turns.{first-free, turn-free, done-free}
+use Rattle.items_check.proofs.Answers.{tells-no, tells-equal, refuted, told}
+use Rattle.items_check.proofs.FreeTurns.{first, turn, done}
 use Rattle.items_check.proofs.free.Statement.{statement}
 use Rattle.items_check.proofs.free.Tie as tie
 
@@ -27,13 +26,14 @@ loop-holds : tie.Need-loop-holds Inv-loop μ-loop
 loop-holds c = rw (c .header .ensures) Iff·rfl
 
 returns : tie.Need-returns Inv-loop μ-loop
-returns c = tells-no (λ f. let x = first-free _ _ _ _ (c .before .loop-test .taken) (c .before .before .loop .inv .1 f) in omega (arith, x .0))
+returns c = tells-no (λ f. let x = first _ _ _ _ (c .before .loop-test .taken) (c .before .before .loop .inv .1 f) in omega (arith, x .0))
 
 idle-requires : tie.Need-idle-requires Inv-loop μ-loop
 idle-requires c κs = search needs
 
 returns-2 : tie.Need-returns-2 Inv-loop μ-loop
-returns-2 c = tells-no (λ f. refuted (c .before .idle .ensures) (not-true _ (c .if2 .taken)) (first-free _ _ _ _ (c .before .before .before .loop-test .taken) (c .before .before .before .before .loop .inv .1 f) .1))
+returns-2 c =
+    tells-no (λ f. refuted (c .before .idle .ensures) (c .if2 .taken) (first _ _ _ _ (c .before .before .before .loop-test .taken) (c .before .before .before .before .loop .inv .1 f) .1))
 
 item-requires : tie.Need-item-requires Inv-loop μ-loop
 item-requires c κs = search needs
@@ -45,10 +45,11 @@ loop-less : tie.Need-loop-less Inv-loop μ-loop
 loop-less c = search needs
 
 loop-again : tie.Need-loop-again Inv-loop μ-loop
-loop-again c = turn-free _ _ _ _ (c .before .before .before .before .before .loop .inv) (search needs) (search needs) (c .before .before .idle .ensures .right (not-false _ (c .before .if2 .left))) _ (c .item .ensures)
+loop-again c =
+    turn _ _ _ _ (search needs) (c .before .before .before .before .before .loop .inv) (search needs) (told (c .before .before .idle .ensures) (c .before .if2 .left)) _ (c .item .ensures)
 
 returns-3 : tie.Need-returns-3 Inv-loop μ-loop
-returns-3 c = let d = Iff·trans (Iff·symm (done-free _ _ _ _ (c .loop-test .left))) (c .before .loop .inv) in tells-equal _ _ (d .0) (d .1)
+returns-3 c = tells-equal _ _ (Iff·trans (Iff·symm (done _ _ _ _ (c .loop-test .left))) (c .before .loop .inv))
 
 pub free-spec : {M : Type 1} → statement M
 free-spec =

@@ -28,7 +28,7 @@ next-own-requires : tie.Need-next-own-requires
 next-own-requires c κs = search needs
 
 returns-4 : tie.Need-returns-4
-returns-4 c = tells-equal _ _ (λ e. record { earlier = omega arith; own = omega arith; room = omega arith; next = omega arith }) (λ j. c .next-own .ensures ∙ j .next)
+returns-4 c = tells-equal _ _ (λ e. record { earlier = omega arith; own = omega arith; room = omega arith; next = omega arith }, λ j. c .next-own .ensures ∙ j .next)
 
 pub joins-spec : {M : Type 1} → statement M
 joins-spec =

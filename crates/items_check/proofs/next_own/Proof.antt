@@ -1,6 +1,6 @@
 -- A row of the table, or none of it.
 use mathlib.Core.Path.{sym, _∙_}
-use Rattle.items_check.proofs.Turns.{next-later, next-oldest}
+use Rattle.items_check.proofs.WindowTurns.{next-later, next-oldest}
 use borrow.Author.Needs.{needs}
 use Rattle.items_check.proofs.next_own.Statement.{statement}
 use Rattle.items_check.proofs.next_own.Tie as tie

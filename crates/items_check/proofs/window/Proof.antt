@@ -1,6 +1,6 @@
 -- Either room is enough, and nothing is noted in it.
 use Rattle.table.specs.Kind as kind
-use Rattle.items_check.proofs.Turns.{unmet}
+use Rattle.items_check.proofs.WindowTurns.{unmet}
 use borrow.Author.Needs.{needs}
 use Rattle.items_check.proofs.window.Statement.{statement}
 use Rattle.items_check.proofs.window.Tie as tie

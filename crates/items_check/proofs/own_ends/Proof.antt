@@ -1,10 +1,10 @@
--- Each test that fails rules out one part of `Ends`; the last one tells the rest.
+-- Each test that fails rules out one part of `OwnRest`; the last one tells the rest.
 use mathlib.Core.Path.{_∙_}
 use native.Mathlib.Omega.{arith}
 use Rattle.items_check.proofs.Answers.{tells-no, tells-equal}
 use borrow.Author.Needs.{needs}
-use Rattle.items_check.proofs.ends.Statement.{statement}
-use Rattle.items_check.proofs.ends.Tie as tie
+use Rattle.items_check.proofs.own_ends.Statement.{statement}
+use Rattle.items_check.proofs.own_ends.Tie as tie
 
 client-requires : tie.Need-client-requires
 client-requires c κs = search needs
@@ -25,10 +25,10 @@ next-own-requires : tie.Need-next-own-requires
 next-own-requires c κs = search needs
 
 returns-4 : tie.Need-returns-4
-returns-4 c = tells-equal _ _ (λ e w. record { run = (omega arith, omega arith); count = omega arith }) (λ k. c .next-own .ensures ∙ k (search needs, search needs) .run .0)
+returns-4 c = tells-equal _ _ (λ e w. record { run = (omega arith, omega arith); count = omega arith }, λ k. c .next-own .ensures ∙ k (search needs, search needs) .run .0)
 
-pub ends-spec : {M : Type 1} → statement M
-ends-spec =
+pub own-ends-spec : {M : Type 1} → statement M
+own-ends-spec =
     tie.close
     (tie.spec
     client-requires
