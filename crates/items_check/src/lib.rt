@@ -88,6 +88,7 @@ fn follow(t: &[u32], q: usize, met: &mut [u32], seen: &mut [u32]) -> bool
     requires { ⌜ Unmet q (now met) (now seen) ⌝ }
     ensures { λ ok. ⌜ Tells ok (Window q (regions q (now (t .entry)))) ⌝ }
 {
+    // Rows are compared in the 32 bits that they have in the table.
     let rows = q as u32;
     let mut left = table::header(t, q, LinkedTable::REQUESTS_AT);
     let mut at = table::header(t, q, LinkedTable::FRONT_AT);
@@ -154,18 +155,18 @@ fn free(t: &[u32], q: usize, m: usize) -> bool
 {
     let rows = q as u32;
     let mut left = m;
-    let mut at = table::header(t, q, LinkedTable::FREE_ITEM_AT);
+    let mut r = table::header(t, q, LinkedTable::FREE_ITEM_AT);
     while 0 < left {
-        if at >= rows {
+        if r >= rows {
             return false;
         }
-        if !idle(t, q, at) {
+        if !idle(t, q, r) {
             return false;
         }
-        at = table::item(t, q, at, LinkedTable::LATER);
+        r = table::item(t, q, r, LinkedTable::LATER);
         left -= 1;
     }
-    at == LinkedTable::NONE
+    r == LinkedTable::NONE
 }
 
 // Whether the items are right, where the clients are known.

@@ -1,6 +1,5 @@
 -- Before turn r the own lists of the rows below r have ended.
 use borrow.Author.Needs.{needs}
-use mathlib.Core.Path.{_∙_, sym}
 use Prim.Native.Nat.{ℕ, _<_, _-_}
 use native.Mathlib.Omega.{arith}
 use borrow.Author.Count.{below-more}
@@ -17,13 +16,13 @@ abbrev μ-loop : tie.MeasureT-loop
 μ-loop t q at prev met seen r₀ r = q - r
 
 returns : tie.Need-returns Inv-loop μ-loop
-returns c = tells-no (λ f. c .if1 .taken (f .none))
+returns c = tells-no (λ f. omega (arith, f .none))
 
 header-requires : tie.Need-header-requires Inv-loop μ-loop
 header-requires c κs = search needs
 
 returns-2 : tie.Need-returns-2 Inv-loop μ-loop
-returns-2 c = tells-no (λ f. c .if2 .taken (f .back ∙ sym (c .before .header .ensures)))
+returns-2 c = tells-no (λ f. omega (arith, f .back))
 
 loop-holds : tie.Need-loop-holds Inv-loop μ-loop
 loop-holds c = λ i h. absurd (omega arith)

@@ -11,10 +11,10 @@ use Rattle.items_check.proofs.free.Statement.{statement}
 use Rattle.items_check.proofs.free.Tie as tie
 
 abbrev Inv-loop : tie.InvT-loop
-Inv-loop t q m rows left₀ at₀ left at = Free q (regions q t) left at ↔ Free q (regions q t) m (regions q t .header kind.freeItemAt)
+Inv-loop t q m rows left₀ r₀ left r = Free q (regions q t) left r ↔ Free q (regions q t) m (regions q t .header kind.freeItemAt)
 
 abbrev μ-loop : tie.MeasureT-loop
-μ-loop t q m rows left₀ at₀ left at = left
+μ-loop t q m rows left₀ r₀ left r = left
 
 cast-rows : tie.Need-cast-rows Inv-loop μ-loop
 cast-rows c = search needs

@@ -1,6 +1,6 @@
 -- Before turn f each field below f is 0, or the link.
 use borrow.Author.Needs.{needs}
-use mathlib.Core.Path.{_≡_, _∙_}
+use mathlib.Core.Path.{_≡_}
 use mathlib.Core.Logic.{⊎-elim}
 use Prim.Native.Nat.{ℕ, _<_, _-_}
 use native.Mathlib.Omega.{arith}
@@ -24,7 +24,7 @@ item-requires : tie.Need-item-requires Inv-loop μ-loop
 item-requires c κs = search needs
 
 returns : tie.Need-returns Inv-loop μ-loop
-returns c = tells-no (λ a. c .if2 .taken (c .before .item .ensures ∙ a _ (search needs) (search needs)))
+returns c = tells-no (λ a. omega (arith, a (c .before .before .before .before .loop .f) (search needs) (search needs)))
 
 add-f : tie.Need-add-f Inv-loop μ-loop
 add-f c = search needs

@@ -1,5 +1,5 @@
 -- Each test that fails rules out one part of `OwnRest`; the last one tells the rest.
-use mathlib.Core.Path.{_∙_}
+use mathlib.Core.Path.{sym, _∙_}
 use native.Mathlib.Omega.{arith}
 use Rattle.items_check.proofs.Answers.{tells-no, tells-equal}
 use borrow.Author.Needs.{needs}
@@ -25,7 +25,7 @@ next-own-requires : tie.Need-next-own-requires
 next-own-requires c κs = search needs
 
 returns-4 : tie.Need-returns-4
-returns-4 c = tells-equal _ _ (λ e w. record { run = (omega arith, omega arith); count = omega arith }, λ k. c .next-own .ensures ∙ k (search needs, search needs) .run .0)
+returns-4 c = tells-equal _ _ (λ e w. record { run = (sym (c .next-own .ensures) ∙ e, omega arith); count = omega arith }, λ k. c .next-own .ensures ∙ k (search needs, search needs) .run .0)
 
 pub own-ends-spec : {M : Type 1} → statement M
 own-ends-spec =
