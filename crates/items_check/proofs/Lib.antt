@@ -1,0 +1,6 @@
+-- Laws of the items' part of the check.
+pub mod Answers
+pub mod Lists
+pub mod WindowTurns
+pub mod FreeTurns
+pub mod Means
