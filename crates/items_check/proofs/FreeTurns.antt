@@ -6,7 +6,7 @@ use Prim.Native.Nat.{ℕ, _-_, _≤_, _<_}
 use native.Mathlib.Omega.{arith}
 use Rattle.table.specs.Kind as kind
 use Rattle.table.specs.Regions.{Regions}
-use Rattle.items_check.specs.Tells.{Idle, Frees, Free}
+use Rattle.items_check.specs.Check.{Idle, Frees, Free}
 
 module _ (q : ℕ) (R : Regions) (x m : ℕ) where
   module _ (h : 0 < m) where

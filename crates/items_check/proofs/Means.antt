@@ -17,7 +17,8 @@ use Rattle.rules.specs.Parts.{Own}
 use Rattle.rules.proofs.Rows.{in-either, distinct-both, in-below, below-in, below-right, past, head-any, last-any, all-both, all-in, in-all}
 use Rattle.rules.proofs.Linked.{run-head, run-last}
 use Rattle.items_check.specs.Items.{Known, Items, Checked}
-use Rattle.items_check.specs.Tells.{Tells, shownItem, ownOf, Waits, Owned, OwnRest, Follows, Idle, Frees, Whole}
+use Rattle.rules.specs.Tells.{Tells}
+use Rattle.items_check.specs.Check.{shownItem, ownOf, Waits, Owned, OwnRest, Follows, Idle, Frees, Whole}
 use Rattle.items_check.proofs.Lists.{run-distinct, between, chain-distinct}
 use Rattle.items_check.proofs.WindowTurns.{next-oldest}
 

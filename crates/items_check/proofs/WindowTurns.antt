@@ -11,7 +11,7 @@ use lib.Seq.{getD-set-same, getD-set-other}
 use borrow.Author.Tests.{eq-eqb, lt-ltb, le-ltb, eqb-true, eqb-false}
 use Rattle.table.specs.Kind as kind
 use Rattle.table.specs.Regions.{Regions}
-use Rattle.items_check.specs.Tells.{column, ownOf, Waits, nextOwn, Joins, OwnRest, Finished, Follows, Rest, Unmet}
+use Rattle.items_check.specs.Check.{column, ownOf, Waits, nextOwn, Joins, OwnRest, Finished, Follows, Rest, Unmet}
 
 -- a column with v noted for c
 

@@ -5,7 +5,8 @@ ghost use lib.ListN.{length};
 ghost use Rattle.table.specs.Kind as kind;
 ghost use Rattle.table.specs.Regions.{Sized, regions};
 ghost use Rattle.items_check.specs.Items.{Checked};
-ghost use Rattle.items_check.specs.Tells.{Tells, column, nextOwn, Joins, OwnEnds, Finished, Window, Unmet, Idle, Free};
+ghost use Rattle.rules.specs.Tells.{Tells};
+ghost use Rattle.items_check.specs.Check.{column, nextOwn, Joins, OwnEnds, Finished, Window, Unmet, Idle, Free};
 use table::LinkedTable;
 
 // Up to this size a table is checked in little room: clearing the most takes longer than all of its check.

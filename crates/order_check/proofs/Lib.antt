@@ -1,5 +1,5 @@
 -- Laws of the check of the clients.
-pub mod Answers
+pub mod Turns
 pub mod Walks
 pub mod Groups
 pub mod Means

@@ -10,7 +10,8 @@ use Rattle.table.specs.Regions.{Regions, regions}
 use Rattle.rules.specs.Rows.{In, All, Below, Rising}
 use Rattle.rules.specs.Linked.{Run, Chain, order}
 use Rattle.rules.proofs.Rows.{below-right, distinct-both, all-in, in-all}
-use Rattle.order_check.specs.Check.{Tells, Walk, Blank, Free, Passes}
+use Rattle.rules.specs.Tells.{Tells}
+use Rattle.order_check.specs.Check.{Walk, Blank, Free, Passes}
 use Rattle.order_check.specs.Clients.{Clients, Checked}
 use Rattle.order_check.proofs.Walks.{run-linked, chain-distinct, once-both}
 use Rattle.order_check.proofs.Groups.{counts, rising-in, Ends, ends-back, begins, ends-on}

@@ -1,14 +1,8 @@
 -- What each part of the check looks for, row by row.
-use mathlib.Core.Bool.{Bool, true}
 use mathlib.Core.Path.{_≡_}
 use Prim.Native.Nat.{ℕ, zero, suc, _-_, _≤_, _<_}
 use Rattle.table.specs.Kind as kind
 use Rattle.table.specs.Regions.{Regions}
-
--- an answer that tells exactly whether P holds
-pub record Tells (ok : Bool) (P : Type 0) : Type 0 where
-  pub right : ok ≡ true → P
-  pub passes : P → ok ≡ true
 
 -- the count rows from `from` on and below `to` hold none twice
 abbrev pub Bare : Regions → ℕ → ℕ → Type 0

@@ -2,7 +2,8 @@
 // It rests on the table's size (`Sized`), which the calls offered outside have tested, and on nothing else.
 ghost use Prim.Native.Nat.{_≤_, _<_};
 ghost use Rattle.table.specs.Regions.{Sized, regions};
-ghost use Rattle.order_check.specs.Check.{Tells, Bare, Ended, Joins, Ranked, Blank, Idle};
+ghost use Rattle.rules.specs.Tells.{Tells};
+ghost use Rattle.order_check.specs.Check.{Bare, Ended, Joins, Ranked, Blank, Idle};
 ghost use Rattle.order_check.specs.Clients.{Checked};
 use table::LinkedTable;
 

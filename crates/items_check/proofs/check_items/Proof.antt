@@ -1,6 +1,6 @@
 -- Each test that fails rules out one part of `Whole`; the last one tells the rest.
 use native.Mathlib.Omega.{arith}
-use Rattle.items_check.proofs.Answers.{tells-no, tells-so, refuted, told}
+use Rattle.rules.proofs.Tells.{tells-no, tells-so, refuted, told}
 use Rattle.items_check.proofs.Means.{checked-by}
 use borrow.Author.Needs.{needs}
 use Rattle.items_check.proofs.check_items.Statement.{statement}

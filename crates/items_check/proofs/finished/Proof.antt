@@ -4,8 +4,8 @@ use Prim.Native.Nat.{ℕ, _<_, _-_}
 use native.Mathlib.Omega.{arith}
 use borrow.Author.Count.{below-more}
 use Rattle.table.specs.Regions.{regions}
-use Rattle.items_check.specs.Tells.{column, OwnEnds}
-use Rattle.items_check.proofs.Answers.{tells-no, tells-yes, refuted, told}
+use Rattle.items_check.specs.Check.{column, OwnEnds}
+use Rattle.rules.proofs.Tells.{tells-no, tells-yes, refuted, told}
 use Rattle.items_check.proofs.finished.Statement.{statement}
 use Rattle.items_check.proofs.finished.Tie as tie
 

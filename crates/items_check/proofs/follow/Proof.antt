@@ -6,8 +6,8 @@ use native.Mathlib.Omega.{arith}
 use lib.ListN.{length, length-set}
 use Rattle.table.specs.Kind as kind
 use Rattle.table.specs.Regions.{regions}
-use Rattle.items_check.specs.Tells.{column, Rest, Window}
-use Rattle.items_check.proofs.Answers.{tells-no, tells-so, refuted, told}
+use Rattle.items_check.specs.Check.{column, Rest, Window}
+use Rattle.rules.proofs.Tells.{tells-no, tells-so, refuted, told}
 use Rattle.items_check.proofs.WindowTurns.{first, done, start, turn-noted}
 use Rattle.items_check.proofs.follow.Statement.{statement}
 use Rattle.items_check.proofs.follow.Tie as tie

@@ -4,8 +4,8 @@ use native.Mathlib.Omega.{arith}
 use mathlib.Core.Logic.{_↔_, Iff·rfl, Iff·trans, Iff·symm}
 use Rattle.table.specs.Kind as kind
 use Rattle.table.specs.Regions.{regions}
-use Rattle.items_check.specs.Tells.{Free}
-use Rattle.items_check.proofs.Answers.{tells-no, tells-equal, refuted, told}
+use Rattle.items_check.specs.Check.{Free}
+use Rattle.rules.proofs.Tells.{tells-no, tells-equal, refuted, told}
 use Rattle.items_check.proofs.FreeTurns.{first, turn, done}
 use Rattle.items_check.proofs.free.Statement.{statement}
 use Rattle.items_check.proofs.free.Tie as tie

@@ -7,7 +7,7 @@ use native.Mathlib.Omega.{arith}
 use borrow.Author.Count.{below-more}
 use Rattle.table.specs.Kind as kind
 use Rattle.table.specs.Regions.{regions}
-use Rattle.items_check.proofs.Answers.{tells-no, tells-yes}
+use Rattle.rules.proofs.Tells.{tells-no, tells-yes}
 use Rattle.items_check.proofs.idle.Statement.{statement}
 use Rattle.items_check.proofs.idle.Tie as tie
 

@@ -1,7 +1,7 @@
 -- Each test that fails rules out one part of `Joins`; the last one tells the rest.
 use mathlib.Core.Path.{sym, _∙_}
 use native.Mathlib.Omega.{arith}
-use Rattle.items_check.proofs.Answers.{tells-no, tells-equal}
+use Rattle.rules.proofs.Tells.{tells-no, tells-equal}
 use borrow.Author.Needs.{needs}
 use Rattle.items_check.proofs.joins.Statement.{statement}
 use Rattle.items_check.proofs.joins.Tie as tie

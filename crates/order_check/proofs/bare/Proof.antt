@@ -6,7 +6,7 @@ use Prim.Native.Nat.{_-_, _≤_}
 use native.Mathlib.Omega.{arith}
 use Rattle.table.specs.Regions.{regions}
 use Rattle.order_check.specs.Check.{Bare}
-use Rattle.order_check.proofs.Answers.{passed, refused}
+use Rattle.rules.proofs.Tells.{tells-yes, tells-no}
 use Rattle.order_check.proofs.bare.Statement.{statement}
 use Rattle.order_check.proofs.bare.Tie as tie
 
@@ -25,7 +25,7 @@ count-end-requires c κs = search needs
 returns : tie.Need-returns Inv-loop μ-loop
 returns c =
     let t = c .before .before in
-    refused (λ b. c .if1 .taken (c .before .count-end .ensures ∙ b _ (t .loop-test .taken) (t .before .loop .inv .0) .0))
+    tells-no (λ b. c .if1 .taken (c .before .count-end .ensures ∙ b _ (t .loop-test .taken) (t .before .loop .inv .0) .0))
 
 count-end-requires-2 : tie.Need-count-end-requires-2 Inv-loop μ-loop
 count-end-requires-2 c κs = search needs
@@ -33,7 +33,7 @@ count-end-requires-2 c κs = search needs
 returns-2 : tie.Need-returns-2 Inv-loop μ-loop
 returns-2 c =
     let t = c .before .before .before .before in
-    refused (λ b. c .if2 .taken (c .before .count-end2 .ensures ∙ b _ (t .loop-test .taken) (t .before .loop .inv .0) .1))
+    tells-no (λ b. c .if2 .taken (c .before .count-end2 .ensures ∙ b _ (t .loop-test .taken) (t .before .loop .inv .0) .1))
 
 add-k : tie.Need-add-k Inv-loop μ-loop
 add-k c = search needs
@@ -49,7 +49,7 @@ loop-again c =
     (search needs, below-more _ _ (l .before .before .before .loop .inv .1) (λ f. (light, heavy)))
 
 returns-3 : tie.Need-returns-3 Inv-loop μ-loop
-returns-3 c = passed (λ j l f. c .before .loop .inv .1 j (omega arith) f)
+returns-3 c = tells-yes (λ j l f. c .before .loop .inv .1 j (omega arith) f)
 
 pub bare-spec : {M : Type 1} → statement M
 bare-spec =

@@ -7,7 +7,7 @@ use Prim.Native.Nat.{ℕ, _-_, _<_}
 use native.Mathlib.Omega.{arith}
 use Rattle.table.specs.Kind as kind
 use Rattle.table.specs.Regions.{regions}
-use Rattle.order_check.proofs.Answers.{passed, refused}
+use Rattle.rules.proofs.Tells.{tells-yes, tells-no}
 use Rattle.order_check.proofs.blank.Statement.{statement}
 use Rattle.order_check.proofs.blank.Tie as tie
 
@@ -26,7 +26,7 @@ client-requires c κs = search needs
 returns : tie.Need-returns Inv-loop μ-loop
 returns c =
     let i = c .before .before in
-    refused (λ b. c .if2 .taken (c .before .client .ensures ∙ b _ (i .before .loop-test .taken) (i .if1 .taken)))
+    tells-no (λ b. c .if2 .taken (c .before .client .ensures ∙ b _ (i .before .loop-test .taken) (i .if1 .taken)))
 
 add-f : tie.Need-add-f Inv-loop μ-loop
 add-f c = search needs
@@ -39,7 +39,7 @@ loop-again c =
     below-more _ _ (c .before .before .loop .inv) (λ n. ⊎-elim (λ w. sym (w .1 .ensures) ∙ w .2 .left) (λ w. absurd (n (w .left))) (c .if1 .came))
 
 returns-2 : tie.Need-returns-2 Inv-loop μ-loop
-returns-2 c = passed (λ i l. c .before .loop .inv i (omega arith))
+returns-2 c = tells-yes (λ i l. c .before .loop .inv i (omega arith))
 
 pub blank-spec : {M : Type 1} → statement M
 blank-spec =

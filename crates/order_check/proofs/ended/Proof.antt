@@ -3,7 +3,7 @@ use mathlib.Core.Logic.{⊎-elim}
 use mathlib.Core.Path.{_≡_, sym, _∙_}
 use Prim.Native.Nat.{_-_}
 use native.Mathlib.Omega.{arith}
-use Rattle.order_check.proofs.Answers.{refused, instead}
+use Rattle.rules.proofs.Tells.{tells-no, tells-so}
 use borrow.Author.Needs.{needs}
 use Rattle.order_check.proofs.ended.Statement.{statement}
 use Rattle.order_check.proofs.ended.Tie as tie
@@ -15,7 +15,7 @@ count-end-requires : tie.Need-count-end-requires
 count-end-requires c κs = search needs
 
 returns : tie.Need-returns
-returns c = refused (λ e. c .if2 .taken (c .before .count-end .ensures ∙ e .last _ (search needs)))
+returns c = tells-no (λ e. c .if2 .taken (c .before .count-end .ensures ∙ e .last _ (search needs)))
 
 bare-requires : tie.Need-bare-requires
 bare-requires c κs = search needs
@@ -23,7 +23,7 @@ bare-requires c κs = search needs
 returns-2 : tie.Need-returns-2
 returns-2 c =
     let count = c .before .before .before .args .count in
-    instead (
+    tells-so (
       λ b.
           record {
             last = λ k h.

@@ -5,7 +5,8 @@ use mathlib.Core.Logic.{_↔_, Iff·rfl}
 use native.Mathlib.Omega.{arith}
 use Rattle.table.specs.Regions.{regions}
 use Rattle.order_check.specs.Check.{Free, Idle}
-use Rattle.order_check.proofs.Answers.{refused, lacks, compared, instead, free-turn, free-end, left-over}
+use Rattle.rules.proofs.Tells.{tells-no, refuted, tells-equal, tells-so}
+use Rattle.order_check.proofs.Turns.{free-turn, free-end, left-over}
 use Rattle.order_check.proofs.idle.Statement.{statement}
 use Rattle.order_check.proofs.idle.Tie as tie
 
@@ -27,7 +28,7 @@ loop-holds c = rw (c .header .ensures) Iff·rfl
 returns : tie.Need-returns Inv-loop μ-loop
 returns c =
     let s = free-turn _ _ _ _ _ (c .before .before .loop .inv) (c .before .loop-test .taken) in
-    refused (λ p. let h = s .1 p .0 in omega arith)
+    tells-no (λ p. let h = s .1 p .0 in omega arith)
 
 blank-requires : tie.Need-blank-requires Inv-loop μ-loop
 blank-requires c κs = search needs
@@ -36,7 +37,7 @@ returns-2 : tie.Need-returns-2 Inv-loop μ-loop
 returns-2 c =
     let t = c .before .before .before in
     let s = free-turn _ _ _ _ _ (t .before .loop .inv) (t .loop-test .taken) in
-    lacks _ (c .if2 .taken) (λ p. c .before .blank .ensures .passes (s .1 p .1))
+    tells-no (λ p. refuted (c .before .blank .ensures) (c .if2 .taken) (s .1 p .1))
 
 client-requires : tie.Need-client-requires Inv-loop μ-loop
 client-requires c κs = search needs
@@ -55,7 +56,7 @@ loop-again c =
     rw (c .client .ensures) (left-over s (b .before .if1 .left) (b .blank .ensures .right (not-false _ (c .before .if2 .left))))
 
 returns-3 : tie.Need-returns-3 Inv-loop μ-loop
-returns-3 c = instead (free-end _ _ _ _ _ (c .before .loop .inv) (c .loop-test .left)) (compared _ _)
+returns-3 c = tells-equal _ _ (free-end _ _ _ _ _ (c .before .loop .inv) (c .loop-test .left))
 
 pub idle-spec : {M : Type 1} → statement M
 idle-spec =

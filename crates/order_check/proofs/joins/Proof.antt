@@ -2,7 +2,7 @@
 use mathlib.Core.Path.{_≡_, sym, _∙_}
 use Prim.Native.Nat.{_-_}
 use native.Mathlib.Omega.{arith}
-use Rattle.order_check.proofs.Answers.{refused, instead}
+use Rattle.rules.proofs.Tells.{tells-no, tells-so}
 use borrow.Author.Needs.{needs}
 use Rattle.order_check.proofs.joins.Statement.{statement}
 use Rattle.order_check.proofs.joins.Tie as tie
@@ -11,16 +11,16 @@ client-requires : tie.Need-client-requires
 client-requires c κs = search needs
 
 returns : tie.Need-returns
-returns c = refused (λ j. c .if1 .taken (c .before .client .ensures ∙ j .back))
+returns c = tells-no (λ j. c .if1 .taken (c .before .client .ensures ∙ j .back))
 
 returns-2 : tie.Need-returns-2
-returns-2 c = refused (λ j. omega arith)
+returns-2 c = tells-no (λ j. omega arith)
 
 returns-3 : tie.Need-returns-3
-returns-3 c = refused (λ j. omega arith)
+returns-3 c = tells-no (λ j. omega arith)
 
 returns-4 : tie.Need-returns-4
-returns-4 c = refused (λ j. omega arith)
+returns-4 c = tells-no (λ j. omega arith)
 
 returns-5 : tie.Need-returns-5
 returns-5 c = search needs
@@ -29,7 +29,7 @@ count-end-requires : tie.Need-count-end-requires
 count-end-requires c κs = search needs
 
 returns-6 : tie.Need-returns-6
-returns-6 c = refused (λ j. c .if6 .taken (c .before .count-end .ensures ∙ j .begins (c .before .before .if5 .left) _ (search needs) .0))
+returns-6 c = tells-no (λ j. c .if6 .taken (c .before .count-end .ensures ∙ j .begins (c .before .before .if5 .left) _ (search needs) .0))
 
 ended-requires : tie.Need-ended-requires
 ended-requires c κs = search needs
@@ -39,7 +39,7 @@ returns-7 c =
     let e = c .before .before in
     let b = e .before .before .before .before .before in
     let count = b .before .before .before .args .count in
-    instead (
+    tells-so (
       λ w.
           record {
             back = sym (b .before .client .ensures) ∙ b .if1 .left;

@@ -7,7 +7,8 @@ use Prim.Native.Nat.{_≤_}
 use native.Mathlib.Omega.{arith}
 use Rattle.table.specs.Regions.{regions}
 use Rattle.order_check.specs.Check.{Walk, Ranked}
-use Rattle.order_check.proofs.Answers.{refused, lacks, instead, walk-turn, walk-end, left-over}
+use Rattle.rules.proofs.Tells.{tells-no, refuted, tells-so}
+use Rattle.order_check.proofs.Turns.{walk-turn, walk-end, left-over}
 use Rattle.order_check.proofs.ranked.Statement.{statement}
 use Rattle.order_check.proofs.ranked.Tie as tie
 
@@ -32,7 +33,7 @@ loop-holds c = (search needs, rw (c .before .header .ensures, c .header2 .ensure
 returns : tie.Need-returns Inv-loop μ-loop
 returns c =
     let s = walk-turn _ _ _ _ _ _ _ (c .before .before .loop .inv .1) (c .before .loop-test .taken) in
-    refused (λ p. let h = s .1 p .0 in omega arith)
+    tells-no (λ p. let h = s .1 p .0 in omega arith)
 
 client-requires : tie.Need-client-requires Inv-loop μ-loop
 client-requires c κs = search needs
@@ -48,7 +49,7 @@ returns-2 c =
     let n = c .before .before in
     let t = n .before .before in
     let s = walk-turn _ _ _ _ _ _ _ (t .before .loop .inv .1) (t .loop-test .taken) in
-    lacks _ (c .if2 .taken) (λ p. c .before .joins .ensures .passes (rw (n .client .ensures) (s .1 p .1)))
+    tells-no (λ p. refuted (c .before .joins .ensures) (c .if2 .taken) (rw (n .client .ensures) (s .1 p .1)))
 
 client-requires-2 : tie.Need-client-requires-2 Inv-loop μ-loop
 client-requires-2 c κs = search needs
@@ -71,7 +72,7 @@ loop-again c =
 returns-3 : tie.Need-returns-3 Inv-loop μ-loop
 returns-3 c =
     let s = walk-end _ _ _ _ _ _ _ (c .before .before .loop .inv .1) (c .before .loop-test .left) in
-    refused (λ p. c .if3 .taken (s .1 p .0))
+    tells-no (λ p. c .if3 .taken (s .1 p .0))
 
 header-requires-3 : tie.Need-header-requires-3 Inv-loop μ-loop
 header-requires-3 c κs = search needs
@@ -80,7 +81,7 @@ returns-4 : tie.Need-returns-4 Inv-loop μ-loop
 returns-4 c =
     let t = c .before .before .before in
     let s = walk-end _ _ _ _ _ _ _ (t .before .loop .inv .1) (t .loop-test .left) in
-    refused (λ p. c .if4 .taken (c .before .header3 .ensures ∙ s .1 p .1))
+    tells-no (λ p. c .if4 .taken (c .before .header3 .ensures ∙ s .1 p .1))
 
 ended-requires : tie.Need-ended-requires Inv-loop μ-loop
 ended-requires c κs = search needs
@@ -90,7 +91,7 @@ returns-5 c =
     let h = c .before .before in
     let t = h .before .before in
     let s = walk-end _ _ _ _ _ _ _ (t .before .loop .inv .1) (t .loop-test .left) in
-    instead (left-over s (h .before .if3 .left) (sym (h .header3 .ensures) ∙ c .before .if4 .left)) (c .ended .ensures)
+    tells-so (left-over s (h .before .if3 .left) (sym (h .header3 .ensures) ∙ c .before .if4 .left)) (c .ended .ensures)
 
 pub ranked-spec : {M : Type 1} → statement M
 ranked-spec =

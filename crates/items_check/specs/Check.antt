@@ -1,6 +1,6 @@
 -- What each part of the check tells. The walk of the window follows every client's own list beside it: what it has met of one is its last item and how many.
 use mathlib.Core.List.{List, [], map}
-use mathlib.Core.Bool.{Bool, true, cond}
+use mathlib.Core.Bool.{cond}
 use mathlib.Core.Path.{_≡_}
 use Prim.Native.Nat.{ℕ, _+_, _-_, _≤_, _<_}
 use lib.Dec.{ltb}
@@ -10,11 +10,6 @@ use Rattle.table.specs.Regions.{Regions}
 use Rattle.rules.specs.Rows.{All, Below}
 use Rattle.rules.specs.Linked.{Run, Chain, window, own}
 use Rattle.rules.specs.Picture.{Item, item, ownRows}
-
--- an answer that tells exactly whether P holds
-pub record Tells (ok : Bool) (P : Type 0) : Type 0 where
-  pub right : ok ≡ true → P
-  pub passes : P → ok ≡ true
 
 -- the column that a slice holds
 abbrev pub column : List ℕ → ℕ → ℕ

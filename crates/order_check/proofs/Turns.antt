@@ -1,31 +1,10 @@
--- Answers that tell exactly, and loops that count down.
-use mathlib.Core.Bool.{Bool, true, false, not}
-use mathlib.Core.Path.{_≡_, refl, sym, _∙_, subst}
+-- Loops that count down: what they ask of the turns that are left.
+use mathlib.Core.Path.{_≡_, subst}
 use mathlib.Core.Logic.{_↔_}
 use Prim.Native.Nat.{ℕ, zero, suc, _-_, _≤_, _<_}
 use native.Mathlib.Omega.{arith}
-use lib.Dec.{eqb}
-use borrow.Author.Tests.{eqb-true, eq-eqb, not-true}
-use Rattle.table.proofs.Range.{no}
 use Rattle.table.specs.Regions.{Regions}
-use Rattle.order_check.specs.Check.{Tells, Walk, Free}
-
-pub passed : {P : Type 0} → P → Tells true P
-passed p = record { right = λ e. p; passes = λ q. refl }
-
-pub refused : {P : Type 0} → (P → ⊥) → Tells false P
-refused h = record { right = λ e. absurd (no e); passes = λ p. absurd (h p) }
-
--- a part of P was asked for, and is lacking
-pub lacks : (ok : Bool) {P : Type 0} → not ok ≡ true → (P → ok ≡ true) → Tells false P
-lacks ok e f = refused (λ p. no (sym (not-true ok e) ∙ f p))
-
-pub compared : (a b : ℕ) → Tells (eqb a b) (a ≡ b)
-compared a b = record { right = eqb-true a b; passes = eq-eqb a b }
-
--- the same answer, of what holds exactly where P does
-pub instead : {ok : Bool} {P Q : Type 0} → (P ↔ Q) → Tells ok P → Tells ok Q
-instead i a = record { right = λ e. i .0 (a .right e); passes = λ q. a .passes (i .1 q) }
+use Rattle.order_check.specs.Check.{Walk, Free}
 
 -- what a loop that counts down asks of n more turns is P: at a turn, and at the end
 module _ (F : ℕ → Type 0) (P : Type 0) (n : ℕ) (so : F n ↔ P) where
