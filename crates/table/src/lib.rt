@@ -104,6 +104,42 @@ impl LinkedTable {
     }
 }
 
+// A word of the header.
+pub fn header(t: &[u32], q: usize, f: usize) -> u32
+    requires { ⌜ Sized q (now t) ⌝ }
+    requires { ⌜ f < kind.headerWords ⌝ }
+    ensures { λ x. ⌜ x ≡ getD (now (t .entry)) f 0 ⌝ }
+{
+    t[f]
+}
+
+pub fn set_header(t: &mut [u32], q: usize, f: usize, v: u32)
+    requires { ⌜ Sized q (now t) ⌝ }
+    requires { ⌜ f < kind.headerWords ⌝ }
+    ensures { λ _. ⌜ Writes q (now (t .entry)) (now (t .exit)) (setHeader f v) 1 ⌝ }
+    ensures { λ _. ⌜ Sized q (now (t .exit)) ⌝ }
+{
+    t[f] = v;
+}
+
+// A word of an item row.
+pub fn item(t: &[u32], q: usize, r: u32, f: usize) -> u32
+    requires { ⌜ Sized q (now t) ⌝ }
+    requires { ⌜ (r < q) × (f < kind.itemWords) ⌝ }
+    ensures { λ x. ⌜ x ≡ itemWord (now (t .entry)) r f ⌝ }
+{
+    t[LinkedTable::HEADER + LinkedTable::ITEM * (r as usize) + f]
+}
+
+pub fn set_item(t: &mut [u32], q: usize, r: u32, f: usize, v: u32)
+    requires { ⌜ Sized q (now t) ⌝ }
+    requires { ⌜ (r < q) × (f < kind.itemWords) ⌝ }
+    ensures { λ _. ⌜ Writes q (now (t .entry)) (now (t .exit)) (setItem r f v) 1 ⌝ }
+    ensures { λ _. ⌜ Sized q (now (t .exit)) ⌝ }
+{
+    t[LinkedTable::HEADER + LinkedTable::ITEM * (r as usize) + f] = v;
+}
+
 // A word of a client row.
 pub fn client(t: &[u32], q: usize, r: u32, f: usize) -> u32
     requires { ⌜ Sized q (now t) ⌝ }
@@ -120,6 +156,24 @@ pub fn set_client(t: &mut [u32], q: usize, r: u32, f: usize, v: u32)
     ensures { λ _. ⌜ Sized q (now (t .exit)) ⌝ }
 {
     t[LinkedTable::HEADER + LinkedTable::ITEM * q + LinkedTable::CLIENT * (r as usize) + f] = v;
+}
+
+// A word of count row k: the ends of the group of count k + 1.
+pub fn count_end(t: &[u32], q: usize, k: usize, f: usize) -> u32
+    requires { ⌜ Sized q (now t) ⌝ }
+    requires { ⌜ (k < q) × (f < kind.countWords) ⌝ }
+    ensures { λ x. ⌜ x ≡ countWord (now (t .entry)) q k f ⌝ }
+{
+    t[LinkedTable::HEADER + LinkedTable::TO_COUNTS * q + LinkedTable::COUNT * k + f]
+}
+
+pub fn set_count_end(t: &mut [u32], q: usize, k: usize, f: usize, v: u32)
+    requires { ⌜ Sized q (now t) ⌝ }
+    requires { ⌜ (k < q) × (f < kind.countWords) ⌝ }
+    ensures { λ _. ⌜ Writes q (now (t .entry)) (now (t .exit)) (setCount k f v) 1 ⌝ }
+    ensures { λ _. ⌜ Sized q (now (t .exit)) ⌝ }
+{
+    t[LinkedTable::HEADER + LinkedTable::TO_COUNTS * q + LinkedTable::COUNT * k + f] = v;
 }
 
 // The first row of a bucket.
