@@ -1,0 +1,2 @@
+-- Laws of the lists, and of the code's writes.
+pub mod Lists

@@ -1,0 +1,2 @@
+-- What unlinking, inserting, taking and freeing do.
+pub mod Steps

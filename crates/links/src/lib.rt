@@ -1,0 +1,1 @@
+// Doubly linked rows and free chains inside a table.
