@@ -1,0 +1,7 @@
+-- Laws of the waiting items.
+pub mod Items
+pub mod Ends
+pub mod Apart
+pub mod Joined
+pub mod Left
+pub mod Kept

@@ -1,0 +1,42 @@
+-- What a join and a leave do to the regions. Each step names the words that it alters, so every other layer's columns compute back to what they were.
+use mathlib.Core.Bool.{cond}
+use Prim.Native.Nat.{ℕ, _+_, _-_}
+use lib.Dec.{eqb}
+use Rattle.table.specs.Kind as kind
+use Rattle.table.specs.Regions.{Regions, setHeader, setItem, setClient}
+use Rattle.links.specs.Strands.{theWindow, theOwn, unlinkIn, insertIn, pushIn}
+
+-- the first free item row is taken off its chain
+abbrev pub takeItem : Regions → Regions
+takeItem R = setHeader kind.freeItemAt (R .item (R .header kind.freeItemAt) kind.later) R
+
+-- every word of item row r is 0 but the chain's, and it is the first free row
+abbrev pub freeItem : ℕ → Regions → Regions
+freeItem r R =
+    setHeader kind.freeItemAt r
+    (setItem r kind.ownLater 0 (setItem r kind.ownEarlier 0 (setItem r kind.later (R .header kind.freeItemAt) (setItem r kind.earlier 0 (setItem r kind.ticket 0 (setItem r kind.owner 0 R))))))
+
+-- item row r, filled with client row and ticket, goes to the back of the window and of the client's own list, whose newest was e, or none
+abbrev pub enterItem : ℕ → ℕ → ℕ → ℕ → Regions → Regions
+enterItem r c ticket e R =
+    insertIn (theOwn c) r e kind.none (pushIn theWindow r (setItem r kind.ticket ticket (setItem r kind.owner c R)))
+
+abbrev pub joined : ℕ → ℕ → ℕ → Regions → Regions
+joined c ticket e R =
+    setHeader kind.requestsAt (R .header kind.requestsAt + 1) (enterItem (R .header kind.freeItemAt) c ticket e (takeItem R))
+
+-- the end of a list in a client's word, which is 0 and not none where the client has no item
+abbrev pub endWord : ℕ → ℕ
+endWord x = cond (eqb kind.none x) 0 x
+
+abbrev pub endWords : ℕ → Regions → Regions
+endWords c R =
+    setClient c kind.newest (endWord (R .client c kind.newest)) (setClient c kind.oldest (endWord (R .client c kind.oldest)) R)
+
+-- item row r goes out of client c's own list
+abbrev pub leaveOwn : ℕ → ℕ → Regions → Regions
+leaveOwn c r R = endWords c (unlinkIn (theOwn c) r R)
+
+abbrev pub left : ℕ → Regions → Regions
+left r R =
+    setHeader kind.requestsAt (R .header kind.requestsAt - 1) (freeItem r (leaveOwn (R .item r kind.owner) r (unlinkIn theWindow r R)))
