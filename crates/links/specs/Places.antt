@@ -56,3 +56,7 @@ unlinked p r t = turned p (backWord p t r) (onWord p t r) (onWord p t r) (backWo
 -- with row r in it between e and l
 abbrev pub inserted : Places → ℕ → ℕ → ℕ → List ℕ → List ℕ
 inserted p r e l t = turned p e r l r (set (set t (wordAt p r (p .back)) e) (wordAt p r (p .on)) l)
+
+-- with row r in it after the last
+abbrev pub pushed : Places → ℕ → List ℕ → List ℕ
+pushed p r t = inserted p r (getD t (p .last) 0) kind.none t

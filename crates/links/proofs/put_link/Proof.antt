@@ -7,54 +7,41 @@ use borrow.Author.Needs.{needs}
 use borrow.Author.Tests.{eq-eqb, ne-eqb}
 use Rattle.links.proofs.put_link.Statement.{statement}
 use Rattle.links.proofs.put_link.Tie as tie
-use Rattle.links.proofs.put_link.Reads as reads
-use Rattle.links.proofs.put_link.Lts as lts
 
 -- the row's link stands within the table
 reach : (c : tie.Else1) → wordAt (c .before .args .p) (c .before .args .e) (c .before .args .f) < length (c .before .args .t .now)
 reach c = c .before .pre .1 (c .if1 .left)
 
--- src/lib.rt:27:9
 mul-t : tie.Need-mul-t
 mul-t c = search needs
 
--- src/lib.rt:27:9
 slice-write-t : tie.Need-slice-write-t
 slice-write-t c = search needs
 
--- src/lib.rt:29:20
 mul-t-2 : tie.Need-mul-t-2
 mul-t-2 c = omega (arith, reach (c .before))
 
--- src/lib.rt:29:11
 add-t : tie.Need-add-t
 add-t c = omega (arith, reach (c .before .before))
 
--- src/lib.rt:29:11
 add-t-2 : tie.Need-add-t-2
 add-t-2 c = omega (arith, reach (c .before .before))
 
--- src/lib.rt:29:9
 mul-t-3 : tie.Need-mul-t-3
 mul-t-3 c = omega (arith, reach (c .before .before))
 
--- src/lib.rt:29:9
 slice-write-t-2 : tie.Need-slice-write-t-2
 slice-write-t-2 c = omega (arith, reach (c .before .before))
 
--- src/lib.rt:21:1
 same-length : tie.Need-same-length
 same-length c = search needs
 
--- src/lib.rt:21:1
 returns : tie.Need-returns
 returns c = rw (eq-eqb _ _ (sym (c .if1 .taken)))
 
--- src/lib.rt:21:1
 same-length-2 : tie.Need-same-length-2
 same-length-2 c = search needs
 
--- src/lib.rt:21:1
 returns-2 : tie.Need-returns-2
 returns-2 c = rw (ne-eqb _ _ (λ z. c .before .before .if1 .left (sym z)))
 

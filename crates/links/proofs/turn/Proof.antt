@@ -2,23 +2,16 @@ use native.Mathlib.Omega.{arith}
 use borrow.Author.Needs.{needs}
 use Rattle.links.proofs.turn.Statement.{statement}
 use Rattle.links.proofs.turn.Tie as tie
-use Rattle.links.proofs.turn.Reads as reads
-use Rattle.links.proofs.turn.Lts as lts
-use Rattle.links.proofs.put_link.Reads as put-link-reads
 
--- src/lib.rt:40:5
 put-link-requires : tie.Need-put-link-requires
 put-link-requires c κs = let k = c .before .before in (k .pre .0 .0, λ n. k .pre .1 .0 n .1)
 
--- src/lib.rt:41:5
 put-link-requires-2 : tie.Need-put-link-requires-2
 put-link-requires-2 c κs = let k = c .before .before .before .before .before .before in (search needs, λ n. omega (arith, k .pre .1 .1 n .0))
 
--- src/lib.rt:34:1
 same-length : tie.Need-same-length
 same-length c = search needs
 
--- src/lib.rt:34:1
 returns : tie.Need-returns
 returns c = cc
 
