@@ -5,3 +5,4 @@ pub mod Apart
 pub mod Joined
 pub mod Left
 pub mod Kept
+pub mod Writes

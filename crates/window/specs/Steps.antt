@@ -16,16 +16,16 @@ freeItem r R =
     setHeader kind.freeItemAt r
     (setItem r kind.ownLater 0 (setItem r kind.ownEarlier 0 (setItem r kind.later (R .header kind.freeItemAt) (setItem r kind.earlier 0 (setItem r kind.ticket 0 (setItem r kind.owner 0 R))))))
 
--- item row r, filled with client row and ticket, goes to the back of the window and of the client's own list, whose newest was e, or none
+-- item row r goes to the back of the window and of the own items of client c, the newest of which was e, or none; it holds the client's row and the ticket
 abbrev pub enterItem : ℕ → ℕ → ℕ → ℕ → Regions → Regions
 enterItem r c ticket e R =
-    insertIn (theOwn c) r e kind.none (pushIn theWindow r (setItem r kind.ticket ticket (setItem r kind.owner c R)))
+    setItem r kind.ticket ticket (setItem r kind.owner c (insertIn (theOwn c) r e kind.none (pushIn theWindow r R)))
 
 abbrev pub joined : ℕ → ℕ → ℕ → Regions → Regions
 joined c ticket e R =
     setHeader kind.requestsAt (R .header kind.requestsAt + 1) (enterItem (R .header kind.freeItemAt) c ticket e (takeItem R))
 
--- the end of a list in a client's word, which is 0 and not none where the client has no item
+-- the end of a list as a client's word holds it: 0 and not none where the client has no item
 abbrev pub endWord : ℕ → ℕ
 endWord x = cond (eqb kind.none x) 0 x
 
@@ -33,10 +33,16 @@ abbrev pub endWords : ℕ → Regions → Regions
 endWords c R =
     setClient c kind.newest (endWord (R .client c kind.newest)) (setClient c kind.oldest (endWord (R .client c kind.oldest)) R)
 
--- item row r goes out of client c's own list
+-- client c has no item
+abbrev pub noOwn : ℕ → Regions → Regions
+noOwn c R = setClient c kind.newest 0 (setClient c kind.oldest 0 R)
+
+-- item row r goes out of the own items of client c, and out of both its lists
 abbrev pub leaveOwn : ℕ → ℕ → Regions → Regions
 leaveOwn c r R = endWords c (unlinkIn (theOwn c) r R)
 
+abbrev pub leaveLists : ℕ → Regions → Regions
+leaveLists r R = unlinkIn theWindow r (leaveOwn (R .item r kind.owner) r R)
+
 abbrev pub left : ℕ → Regions → Regions
-left r R =
-    setHeader kind.requestsAt (R .header kind.requestsAt - 1) (freeItem r (leaveOwn (R .item r kind.owner) r (unlinkIn theWindow r R)))
+left r R = setHeader kind.requestsAt (R .header kind.requestsAt - 1) (freeItem r (leaveLists r R))
