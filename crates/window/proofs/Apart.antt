@@ -8,11 +8,15 @@ use Rattle.table.specs.Kind as kind
 use Rattle.table.specs.Regions.{Regions, at}
 use Rattle.table.proofs.Draw.{at-other}
 use Rattle.rules.specs.Rows.{In, NotIn, All}
-use Rattle.rules.specs.Linked.{Chain}
 use Rattle.rules.specs.Picture.{Item, itemRow, ownRows}
 use Rattle.rules.specs.Parts.{Queued}
 use Rattle.rules.proofs.Rows.{other, apart-right, below-right, in-below, all-both, notin-all}
 use Rattle.rules.proofs.Look.{own-in, owner-own}
+use Rattle.links.specs.Pools.{freeItems, Free}
+
+-- the free rows, as a chain of blank rows
+pub spare : {q : ℕ} {R : Regions} {w : List Item} {free : List ℕ} → Queued q R w free → Free freeItems R free
+spare k = record { chain = k .chain; zeros = k .idle }
 
 module _ {q : ℕ} (hq : q ≤ kind.none) {R : Regions} {w : List Item} {free : List ℕ} (k : Queued q R w free) where
   -- a free row neither waits nor is none
@@ -33,8 +37,3 @@ module _ {q : ℕ} (hq : q ≤ kind.none) {R : Regions} {w : List Item} {free : 
 pub all-at : (o : ℕ → ℕ) (value : Item → ℕ) (r v : ℕ) (w : List Item) → NotIn r (map itemRow w) → All (λ i. o (i .row) ≡ value i) w
     → All (λ i. at o r v (i .row) ≡ value i) w
 all-at o value r v w n = all-both _ _ _ w (λ i m e. at-other o r v (i .row) (λ z. m (sym z)) ∙ e) (notin-all itemRow r w n)
-
--- a chain over a column that agrees at its rows
-pub chain-so : (o u : ℕ → ℕ) (h : ℕ) (xs : List ℕ) → ((x : ℕ) → In x xs → u x ≡ o x) → Chain o h xs → Chain u h xs
-chain-so o u h [] g c = c
-chain-so o u h (x ∷ xs) g c = (c .0, rw (g x (inl refl)) (chain-so o u (o x) xs (λ y i. g y (inr i)) (c .1)))

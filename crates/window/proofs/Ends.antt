@@ -20,11 +20,6 @@ use Rattle.window.specs.Steps.{endWord}
 pub own-ends : {q : ℕ} {L : Links} {xs : List ℕ} → Linked q L xs → Linked q (ended L (headOr kind.none xs) (lastOr kind.none xs)) xs
 own-ends k = linked-so (first-is k) (last-is k) (λ x i. (refl, refl)) k
 
--- where there are rows, the client's words are the ends
-pub own-linked : {q : ℕ} {R : Regions} {c : ℕ} {xs : List ℕ} → 1 ≤ length xs → Own q R c xs → Linked q (own c R) xs
-own-linked {xs = xs} h o =
-    linked-so (head-any kind.none 0 xs h ∙ sym (o .oldest)) (last-any kind.none 0 xs h ∙ sym (o .newest)) (λ x i. (refl, refl)) (o .linked)
-
 -- a row is not none
 pub not-none : (q : ℕ) → q ≤ kind.none → (x : ℕ) → x < q → kind.none ≡ x → ⊥
 not-none q hq x h e = omega arith

@@ -23,11 +23,12 @@ use Rattle.rules.proofs.Rows.{other, not-both, notin, in-left, apart-right, dis
 use Rattle.rules.proofs.Columns.{last-is}
 use Rattle.rules.proofs.Look.{own-kept, own-in, own-out, owner-own}
 use Rattle.links.specs.Steps.{ended}
+use Rattle.links.proofs.Pools.{spare-take, spare-so}
 use Rattle.links.proofs.Lists.{insert-linked, insert-last, insert-apart}
 use Rattle.window.specs.Steps.{joined}
 use Rattle.window.proofs.Items.{own-snoc}
 use Rattle.window.proofs.Ends.{own-ends, last-row}
-use Rattle.window.proofs.Apart.{free-apart, free-own, owners-apart, all-at, chain-so}
+use Rattle.window.proofs.Apart.{free-apart, free-own, owners-apart, all-at, spare}
 
 -- the first row of an own list with one more at the end, e being its last before
 pub first-snoc : (q : ℕ) (e r old : ℕ) (xs : List ℕ) → q ≤ kind.none → Below q xs → e ≡ lastOr kind.none xs → old ≡ headOr 0 xs → cond (eqb kind.none e) r old ≡ headOr 0 (xs ++ r ∷ [])
@@ -61,8 +62,8 @@ module _ (q : ℕ) (hq : q ≤ kind.none) (R : Regions) (w : List Item) (free : 
   before = rw he (last-in kind.none (ownRows c w))
 
   -- the free rows that are left are as they were
-  free-kept : (x : ℕ) → In x free → (f : ℕ) → S .item x f ≡ R .item x f
-  free-kept x i f =
+  free-kept : (x f : ℕ) → In x free → R .item x f ≡ S .item x f
+  free-kept x f i =
       let not-r : x ≡ r → ⊥ = λ z. other r x free (distinct-right (map itemRow w) (r ∷ free) (k .each .distinct) .0) i (sym z) in
       let last : In (R .header kind.backAt) (kind.none ∷ map itemRow w) = rw (last-is (k .window)) (last-in kind.none (map itemRow w)) in
       simp (
@@ -95,6 +96,7 @@ module _ (q : ℕ) (hq : q ≤ kind.none) (R : Regions) (w : List Item) (free : 
 
   taken : Queued q S (w ++ new ∷ []) free
   taken =
+      let spared = spare-so (S .item) free-kept (spare-take (spare k) .1) in
       record {
         waiting = omega (arith, k .waiting, length-append w (new ∷ []));
         window = rw (map-snoc itemRow w new) (insert-last q hq (linked.window R) r (map itemRow w) fresh row (k .window));
@@ -107,8 +109,8 @@ module _ (q : ℕ) (hq : q ≤ kind.none) (R : Regions) (w : List Item) (free : 
             | no n ↦ rw (own-kept d (put-last new w) n) (others d hd n)
             ];
         each = rw (map-snoc itemRow w new, append-assoc) (k .each);
-        chain = chain-so (λ x. R .item x kind.later) (λ x. S .item x kind.later) _ free (λ x i. free-kept x i kind.later) (k .chain .1);
-        idle = λ x i f h n. free-kept x i f ∙ k .idle x (inr i) f h n;
+        chain = spared .chain;
+        idle = spared .zeros;
       }
 
 pub joined-queued : {q : ℕ} {R : Regions} {w : List Item} {free : List ℕ} → q ≤ kind.none → (c ticket e : ℕ) → c < q → e ≡ lastOr kind.none (ownRows c w) → 1 ≤ length free

@@ -10,7 +10,6 @@ use borrow.Author.Tests.{eq-eqb, ne-eqb}
 use Rattle.table.specs.Kind as kind
 use Rattle.table.specs.Regions.{Regions}
 use Rattle.table.proofs.Draw.{at-same, cond-same}
-use Rattle.table.proofs.Fields.{item-fields}
 use Rattle.rules.specs.Rows.{headOr, lastOr, In, NotIn, Distinct}
 use Rattle.rules.specs.Linked as linked
 use Rattle.rules.specs.Linked.{Links, Linked}
@@ -18,15 +17,18 @@ use Rattle.rules.specs.Picture.{Item, itemRow, ownRows}
 use Rattle.rules.specs.Steps.{withoutItem}
 use Rattle.rules.specs.Parts.{Own, Queued}
 use Rattle.rules.proofs.Put.{Put, here, put-map, put-first, put-second, put-length, put-in, put-once, take-all, take-distinct}
-use Rattle.rules.proofs.Rows.{other, apart-right, distinct-right, below-right, in-below}
+use Rattle.rules.proofs.Rows.{notin}
 use Rattle.rules.proofs.Columns.{first-is, last-is}
-use Rattle.rules.proofs.Look.{find, own-put, own-kept, own-in, own-out, owner-own}
+use Rattle.rules.proofs.Look.{find, own-kept, own-in, own-out, owner-own}
 use Rattle.links.specs.Steps.{unlink}
+use Rattle.links.specs.Pools.{freeItems, Free}
+use Rattle.links.proofs.Pools.{spare-free, spare-so}
 use Rattle.links.proofs.Lists.{elsewhere, unlink-in, unlink-apart, neighbours}
-use Rattle.window.specs.Steps.{left}
+use Rattle.window.specs.Steps.{leaveLists, left}
 use Rattle.window.proofs.Items.{put-without, item-out}
-use Rattle.window.proofs.Ends.{own-ends, own-linked, end-first, end-last}
-use Rattle.window.proofs.Apart.{free-apart, free-own, owners-apart, all-at, chain-so}
+use Rattle.window.proofs.Ends.{own-ends, end-first, end-last}
+use Rattle.window.proofs.Owner.{owner-is, own-rows, own-list}
+use Rattle.window.proofs.Apart.{free-apart, free-own, owners-apart, all-at, spare}
 
 unlink-put : (q : ℕ) → q ≤ kind.none → (L : Links) {r : ℕ} {xs ys : List ℕ} → Put r xs ys → Linked q L ys → Linked q (unlink r L) xs
 unlink-put q hq L {r} {xs} {ys} p k = subst (Linked q (unlink r L)) (put-without p (k .distinct)) (unlink-in q hq L r ys (put-in r p (inl refl)) k)
@@ -42,32 +44,18 @@ module _ (q : ℕ) (hq : q ≤ kind.none) (R : Regions) (i : Item) (v w : List I
   abbrev S : Regions
   S = left r R
 
-  owner : c ≡ i .client
-  owner = take-all (λ j. R .item (j .row) kind.owner ≡ j .client) p (k .owner) .0
-
-  client : c < q
-  client = rw owner (take-all (λ j. j .client < q) p (k .owners) .0)
-
   rows : Put r (map itemRow v) (map itemRow w)
   rows = put-map itemRow p
 
-  -- gone from the rows, and the client's own
   gone : NotIn r (map itemRow v)
   gone = take-distinct rows (k .window .distinct) .0
 
-  own-rows : Put r (ownRows c v) (ownRows c w)
-  own-rows = own-put c p (sym owner)
-
-  own-list : Linked q (linked.own c R) (ownRows c w)
-  own-list = own-linked (omega (arith, put-length own-rows)) (k .own c client)
-
   -- the free rows are as they were
-  free-kept : (x : ℕ) → In x free → (f : ℕ) → S .item x f ≡ R .item x f
-  free-kept x j f =
+  free-kept : (x f : ℕ) → In x free → R .item x f ≡ leaveLists r R .item x f
+  free-kept x f j =
       let near = neighbours (k .window) r (put-in r rows (inl refl)) in
-      let own-near = neighbours own-list r (put-in r own-rows (inl refl)) in
+      let own-near = neighbours (own-list p k) r (put-in r (own-rows p k) (inl refl)) in
       simp (
-        ne-eqb x r (free-apart hq k x r j (inr (put-in r rows (inl refl)))),
         ne-eqb x (R .item r kind.earlier) (free-apart hq k x _ j (near .0)),
         ne-eqb x (R .item r kind.later) (free-apart hq k x _ j (near .1)),
         ne-eqb x (R .item r kind.ownEarlier) (free-own hq k c x _ j (own-near .0)),
@@ -75,14 +63,15 @@ module _ (q : ℕ) (hq : q ≤ kind.none) (R : Regions) (i : Item) (v w : List I
         cond-same,
       )
 
-  -- the words of the row that is freed
-  freed : (f : ℕ) → f < kind.itemWords → (f ≡ kind.later → ⊥) → S .item r f ≡ 0
-  freed = item-fields (λ f. (f ≡ kind.later → ⊥) → S .item r f ≡ 0) (λ n. rw (eq-eqb r r refl)) (λ n. rw (eq-eqb r r refl)) (λ n. rw (eq-eqb r r refl)) (λ n. absurd (n refl)) (λ n. rw (eq-eqb r r refl)) (λ n. rw (eq-eqb r r refl))
+  freed : Free freeItems S (r ∷ free)
+  freed =
+      let taken = notin r free (λ j. free-apart hq k r r j (inr (put-in r rows (inl refl))) refl) in
+      spare-free r taken (spare-so (leaveLists r R .item) free-kept (spare k))
 
   mine : Own q S c (ownRows c v)
   mine =
-      let out = take-distinct own-rows (own-list .distinct) .0 in
-      let cut = unlink-put q hq (linked.own c R) own-rows own-list in
+      let out = take-distinct (own-rows p k) (own-list p k .distinct) .0 in
+      let cut = unlink-put q hq (linked.own c R) (own-rows p k) (own-list p k) in
       record {
         linked = elsewhere r 0 r 0 out out (own-ends cut);
         oldest = simp (eq-eqb c c refl) (rw (first-is cut) (end-first q hq (ownRows c v) (cut .below)));
@@ -93,9 +82,9 @@ module _ (q : ℕ) (hq : q ≤ kind.none) (R : Regions) (i : Item) (v w : List I
   others d hd n =
       let xs = ownRows d w in
       let u = k .own d hd in
-      let stranger : NotIn r xs = rw (own-kept d p (λ z. n (owner ∙ z))) (own-out d r v gone) in
+      let stranger : NotIn r xs = rw (own-kept d p (λ z. n (owner-is p k ∙ z))) (own-out d r v gone) in
       record {
-        linked = elsewhere r 0 r 0 stranger stranger (unlink-apart q hq (ownRows c w) xs (owners-apart hq k c d n) (linked.own c R) r _ _ (put-in r own-rows (inl refl)) own-list (u .linked));
+        linked = elsewhere r 0 r 0 stranger stranger (unlink-apart q hq (ownRows c w) xs (owners-apart hq k c d n) (linked.own c R) r _ _ (put-in r (own-rows p k) (inl refl)) (own-list p k) (u .linked));
         oldest = simp (ne-eqb d c (λ z. n (sym z))) (u .oldest);
         newest = simp (ne-eqb d c (λ z. n (sym z))) (u .newest);
       }
@@ -111,11 +100,11 @@ module _ (q : ℕ) (hq : q ≤ kind.none) (R : Regions) (i : Item) (v w : List I
         own = λ d hd.
             elim (ℕ-discrete c d) [
               yes z ↦ subst (λ (y : ℕ). Own q S y (ownRows y v)) z mine
-            | no n ↦ rw (sym (own-kept d p (λ z. n (owner ∙ z)))) (others d hd n)
+            | no n ↦ rw (sym (own-kept d p (λ z. n (owner-is p k ∙ z)))) (others d hd n)
             ];
         each = put-once q (put-first free rows) (put-second (map itemRow v) here) (k .each);
-        chain = (refl, rw (eq-eqb r r refl) (chain-so (λ x. R .item x kind.later) (λ x. S .item x kind.later) _ free (λ x j. free-kept x j kind.later) (k .chain)));
-        idle = λ x j f h n. ⊎-elim (λ z. rw z (freed f h n)) (λ l. free-kept x l f ∙ k .idle x l f h n) j;
+        chain = freed .chain;
+        idle = freed .zeros;
       }
 
 pub left-queued : {q : ℕ} {R : Regions} {w : List Item} {free : List ℕ} → q ≤ kind.none → (r : ℕ) → In r (map itemRow w) → Queued q R w free

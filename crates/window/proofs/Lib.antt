@@ -1,8 +1,10 @@
 -- Laws of the waiting items.
 pub mod Items
 pub mod Ends
+pub mod Owner
 pub mod Apart
 pub mod Joined
 pub mod Left
 pub mod Kept
 pub mod Writes
+pub mod Shown

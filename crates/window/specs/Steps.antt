@@ -4,26 +4,18 @@ use Prim.Native.Nat.{ℕ, _+_, _-_}
 use lib.Dec.{eqb}
 use Rattle.table.specs.Kind as kind
 use Rattle.table.specs.Regions.{Regions, setHeader, setItem, setClient}
+use Rattle.links.specs.Pools.{freeItems, takeFrom, freeInto}
 use Rattle.links.specs.Strands.{theWindow, theOwn, unlinkIn, insertIn, pushIn}
-
--- the first free item row is taken off its chain
-abbrev pub takeItem : Regions → Regions
-takeItem R = setHeader kind.freeItemAt (R .item (R .header kind.freeItemAt) kind.later) R
-
--- every word of item row r is 0 but the chain's, and it is the first free row
-abbrev pub freeItem : ℕ → Regions → Regions
-freeItem r R =
-    setHeader kind.freeItemAt r
-    (setItem r kind.ownLater 0 (setItem r kind.ownEarlier 0 (setItem r kind.later (R .header kind.freeItemAt) (setItem r kind.earlier 0 (setItem r kind.ticket 0 (setItem r kind.owner 0 R))))))
 
 -- item row r goes to the back of the window and of the own items of client c, the newest of which was e, or none; it holds the client's row and the ticket
 abbrev pub enterItem : ℕ → ℕ → ℕ → ℕ → Regions → Regions
 enterItem r c ticket e R =
     setItem r kind.ticket ticket (setItem r kind.owner c (insertIn (theOwn c) r e kind.none (pushIn theWindow r R)))
 
+-- the first free row is taken, and enters; one request more
 abbrev pub joined : ℕ → ℕ → ℕ → Regions → Regions
 joined c ticket e R =
-    setHeader kind.requestsAt (R .header kind.requestsAt + 1) (enterItem (R .header kind.freeItemAt) c ticket e (takeItem R))
+    setHeader kind.requestsAt (R .header kind.requestsAt + 1) (enterItem (R .header kind.freeItemAt) c ticket e (takeFrom freeItems R))
 
 -- the end of a list as a client's word holds it: 0 and not none where the client has no item
 abbrev pub endWord : ℕ → ℕ
@@ -44,5 +36,6 @@ leaveOwn c r R = endWords c (unlinkIn (theOwn c) r R)
 abbrev pub leaveLists : ℕ → Regions → Regions
 leaveLists r R = unlinkIn theWindow r (leaveOwn (R .item r kind.owner) r R)
 
+-- item row r goes out of its lists, and is the first free row; one request fewer
 abbrev pub left : ℕ → Regions → Regions
-left r R = setHeader kind.requestsAt (R .header kind.requestsAt - 1) (freeItem r (leaveLists r R))
+left r R = setHeader kind.requestsAt (R .header kind.requestsAt - 1) (freeInto freeItems r (leaveLists r R))

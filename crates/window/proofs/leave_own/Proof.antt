@@ -1,3 +1,7 @@
+use mathlib.Core.Path.{sym, _∙_}
+use mathlib.Core.Logic.{⊎-elim}
+use borrow.Author.Tests.{eqb-true, eqb-false}
+use Rattle.window.proofs.Writes.{leave-alone, leave-others}
 use borrow.Author.Needs.{needs}
 use Rattle.window.proofs.leave_own.Statement.{statement}
 use Rattle.window.proofs.leave_own.Tie as tie
@@ -29,7 +33,15 @@ same-length c = search needs
 
 -- src/lib.rt:39:1
 returns : tie.Need-returns
-returns c = ?
+returns c =
+    let k = c .before .before in
+    let two = k .before .before in
+    let i2 = two .before .before in
+    let i1 = i2 .before .before in
+    let s = i1 .before .before .before in (
+      leave-alone _ (search needs) _ _ (s .pre .1 .0 .1) (sym (i1 .item .ensures) ∙ two .before .if1 .taken) (sym (i2 .item2 .ensures) ∙ eqb-true _ _ (two .if2 .taken)) (k .no-own .ensures .0),
+      k .no-own .ensures .1,
+    )
 
 -- src/lib.rt:39:1
 same-length-2 : tie.Need-same-length-2
@@ -37,7 +49,16 @@ same-length-2 c = search needs
 
 -- src/lib.rt:39:1
 returns-2 : tie.Need-returns-2
-returns-2 c = ?
+returns-2 c =
+    let k = c .before .before in
+    let j = k .before .before in
+    let i2 = j .before in
+    let i1 = i2 .before .before in
+    let s = i1 .before .before .before in (
+      leave-others _ (search needs) _ _ (s .pre .1 .0 .1) (s .pre .1 .0 .0) (s .pre .1 .1 .1 .0) (s .pre .1 .1 .1 .1)
+          (λ e l. ⊎-elim (λ a. eqb-false _ _ (a .1 .left) (i2 .item2 .ensures ∙ l)) (λ a. a .left (i1 .item .ensures ∙ e)) (j .if1 .came)) (k .unlink-own .ensures .0),
+      k .unlink-own .ensures .1,
+    )
 
 pub leave-own-spec : {M : Type 1} → statement M
 leave-own-spec =
