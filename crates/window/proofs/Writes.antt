@@ -14,9 +14,10 @@ use Rattle.table.proofs.Draw.{at-same, at-other, cond-same}
 use Rattle.table.proofs.Fields.{client-fields}
 use Rattle.table.proofs.Whole.{Agree, agree-words}
 use Rattle.table.proofs.Write.{then, so-read, read-header, read-item, read-client}
-use Rattle.links.specs.Strands.{theWindow, theOwn, unlinkIn, insertIn, pushIn}
+use Rattle.links.specs.Strands.{theWindow, theOwn, unlinkIn}
+use Rattle.links.specs.Pools.{freeItems, takeFrom, freeInto}
 use Rattle.window.proofs.Ends.{not-none}
-use Rattle.window.specs.Steps.{enterItem, noOwn, leaveOwn, endWord, endWords}
+use Rattle.window.specs.Steps.{enterItem, joined, endWord, endWords, noOwn, leaveOwn, leaveLists, left}
 
 -- another step that draws the same where the table is drawn from R
 draws-so : {q : ℕ} {a b : List ℕ} {f g : Regions → Regions} {k : ℕ} → Writes q a b f k → ((R : Regions) → a ≡ words q R → words q (f R) ≡ words q (g R)) → Writes q a b g k
@@ -86,3 +87,23 @@ module _ (q : ℕ) (hq : q ≤ kind.none) (c r : ℕ) where
         ends-same (unlinkIn (theOwn c) r R)
         (λ z. end-left (R .item r kind.ownEarlier) (R .item r kind.ownLater) (R .client c kind.oldest) both first (z ∙ at-same (λ y. R .client y kind.oldest) c _))
         (λ z. end-left (R .item r kind.ownLater) (R .item r kind.ownEarlier) (R .client c kind.newest) (λ y u. both u y) last (z ∙ at-same (λ y. R .client y kind.newest) c _)))
+
+module _ (q : ℕ) {t : List ℕ} where
+  pub leave-lists-writes : {a b : List ℕ} (c r : ℕ) → r < q → c ≡ itemWord t r kind.owner → Writes q t a (leaveOwn c r) 2 → Writes q a b (unlinkIn theWindow r) 2
+      → Writes q t b (leaveLists r) 4
+  leave-lists-writes c r hr e x y =
+      so-read (then x y) (λ R d. ap (λ (m : ℕ). unlinkIn theWindow r (leaveOwn m r R)) (e ∙ read-item q R r kind.owner d hr (lit< tt)))
+
+  pub join-writes : {a b u : List ℕ} (n r c ticket e : ℕ) → n ≡ getD t kind.requestsAt 0 → r ≡ getD t kind.freeItemAt 0 → Writes q t a (takeFrom freeItems) 1
+      → Writes q a b (enterItem r c ticket e) 10 → Writes q b u (setHeader kind.requestsAt (n + 1)) 1 → Writes q t u (joined c ticket e) 12
+  join-writes n r c ticket e hn hr x y z =
+      so-read (then (then x y) z)
+      (λ R d.
+      ap₂ (λ (m s : ℕ). setHeader kind.requestsAt (m + 1) (enterItem s c ticket e (takeFrom freeItems R))) (hn ∙ read-header q R kind.requestsAt d (lit< tt))
+      (hr ∙ read-header q R kind.freeItemAt d (lit< tt)))
+
+  pub leave-writes : {a b u : List ℕ} (n r : ℕ) → n ≡ getD t kind.requestsAt 0 → Writes q t a (leaveLists r) 4 → Writes q a b (freeInto freeItems r) 7
+      → Writes q b u (setHeader kind.requestsAt (n - 1)) 1 → Writes q t u (left r) 12
+  leave-writes n r hn x y z =
+      so-read (then (then x y) z)
+      (λ R d. ap (λ (m : ℕ). setHeader kind.requestsAt (m - 1) (freeInto freeItems r (leaveLists r R))) (hn ∙ read-header q R kind.requestsAt d (lit< tt)))

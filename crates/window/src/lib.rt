@@ -6,7 +6,8 @@ ghost use lib.ListN.{getD};
 ghost use Rattle.table.specs.Kind as kind;
 ghost use Rattle.table.specs.Regions.{Sized, Writes, itemWord, clientWord};
 ghost use Rattle.rules.specs.Linked.{Link};
-ghost use Rattle.window.specs.Steps.{enterItem, noOwn, leaveOwn};
+ghost use Rattle.window.specs.Steps.{enterItem, joined, noOwn, leaveOwn, leaveLists, left};
+ghost use Rattle.window.specs.Shown.{Room, Waits};
 use table::LinkedTable;
 
 // An item row goes to the back of the window and of its client's own items, the newest of which was e, or none.
@@ -51,4 +52,60 @@ fn leave_own(t: &mut [u32], q: usize, c: u32, r: u32)
     } else {
         links::unlink_own(t, q, c, r);
     }
+}
+
+// An item row goes out of its client's own items and of the window.
+fn leave_lists(t: &mut [u32], q: usize, r: u32)
+    requires { ⌜ Sized q (now t) ⌝ }
+    requires { ⌜ Waits q (now t) r ⌝ }
+    ensures { λ _. ⌜ Writes q (now (t .entry)) (now (t .exit)) (leaveLists r) 4 ⌝ }
+    ensures { λ _. ⌜ Sized q (now (t .exit)) ⌝ }
+{
+    let c = table::item(t, q, r, LinkedTable::OWNER);
+    leave_own(t, q, c, r);
+    links::unlink_item(t, q, r);
+}
+
+// A request of the client in row c joins at the back, in the first free item row. The caller, who has looked the client up, says its newest item, or none.
+pub fn join(t: &mut [u32], q: usize, c: u32, ticket: u32, e: u32)
+    requires { ⌜ Sized q (now t) ⌝ }
+    requires { ⌜ c < q ⌝ }
+    requires { ⌜ Room q (now t) c e ⌝ }
+    ensures { λ _. ⌜ Writes q (now (t .entry)) (now (t .exit)) (joined c ticket e) 12 ⌝ }
+    ensures { λ _. ⌜ Sized q (now (t .exit)) ⌝ }
+{
+    let n = table::header(t, q, LinkedTable::REQUESTS_AT);
+    let r = links::take_item(t, q);
+    enter_item(t, q, r, c, ticket, e);
+    table::set_header(t, q, LinkedTable::REQUESTS_AT, n + 1);
+}
+
+// The item in row r leaves, wherever it stands, and its row is the first free one.
+pub fn leave(t: &mut [u32], q: usize, r: u32)
+    requires { ⌜ Sized q (now t) ⌝ }
+    requires { ⌜ Waits q (now t) r ⌝ }
+    ensures { λ _. ⌜ Writes q (now (t .entry)) (now (t .exit)) (left r) 12 ⌝ }
+    ensures { λ _. ⌜ Sized q (now (t .exit)) ⌝ }
+{
+    let n = table::header(t, q, LinkedTable::REQUESTS_AT);
+    leave_lists(t, q, r);
+    links::free_item(t, q, r);
+    table::set_header(t, q, LinkedTable::REQUESTS_AT, n - 1);
+}
+
+// The item row at the front of the window.
+pub fn front(t: &[u32], q: usize) -> u32
+    requires { ⌜ Sized q (now t) ⌝ }
+    ensures { λ r. ⌜ r ≡ getD (now (t .entry)) kind.frontAt 0 ⌝ }
+{
+    table::header(t, q, LinkedTable::FRONT_AT)
+}
+
+// The newest item row of the client in row c, which has one.
+pub fn newest(t: &[u32], q: usize, c: u32) -> u32
+    requires { ⌜ Sized q (now t) ⌝ }
+    requires { ⌜ c < q ⌝ }
+    ensures { λ r. ⌜ r ≡ clientWord (now (t .entry)) q c kind.newest ⌝ }
+{
+    table::client(t, q, c, LinkedTable::NEWEST)
 }
