@@ -24,7 +24,6 @@ no-true e = let z : _≡_ {A = ℕ} 0 1 = ap (λ (b : Bool). cond b 1 0) e in om
 -- tests put together
 
 infixl 35 _&_ _then_
-
 _then_ : {a b : Bool} {A B : Type 0} → Decides a A → Decides b B → Decides (cond a b false) (A × B)
 _then_ {a = true} d e = (λ z. (d .0 refl, e .0 z), λ u. e .1 (u .1))
 _then_ {a = false} d e = (λ z. absurd (no-true z), λ u. d .1 (u .0))
@@ -102,19 +101,19 @@ right-decides P =
     let chain : Client → List ℕ = λ c. getD (P .chains) (bucket (P .size) (c .id)) [] in
     so-decides
     (λ ((((((((((least, most), items), clients), owners), counts), ids), buckets), stands), apart), nobody).
-      record {
-        least = least;
-        most = most;
-        items = items;
-        clients = clients;
-        owners = owners;
-        counts = counts;
-        ids = ids;
-        buckets = buckets;
-        stands = stands;
-        apart = apart;
-        nobody = nobody;
-      })
+    record {
+      least = least;
+      most = most;
+      items = items;
+      clients = clients;
+      owners = owners;
+      counts = counts;
+      ids = ids;
+      buckets = buckets;
+      stands = stands;
+      apart = apart;
+      nobody = nobody;
+    })
     (λ v. ((((((((((v .least, v .most), v .items), v .clients), v .owners), v .counts), v .ids), v .buckets), v .stands), v .apart), v .nobody))
     (range-decides (P .size)
     & once-decides (P .size) (itemRows P ++ P .freeItems)

@@ -1,5 +1,5 @@
 -- After a lay-out: the empty picture is right, nobody waits in it, and its drawing is sound.
-use mathlib.Core.List.{List, [], _∷_}
+use mathlib.Core.List.{[]}
 use mathlib.Core.Bool.{true}
 use mathlib.Core.Path.{_≡_, refl, ap}
 use mathlib.Core.Logic.{⊎-elim}

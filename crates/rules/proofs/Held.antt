@@ -1,8 +1,8 @@
--- Regions hold a right picture where they agree with its drawing, and only there; and they show no other picture.
-use mathlib.Core.List.{List, [], _∷_, _++_, map}
-use mathlib.Core.Path.{_≡_, refl, sym, ap, ap₂, _∙_, subst}
+-- Regions hold a right picture where they agree with its drawing, and only there.
+use mathlib.Core.List.{List, [], _∷_, _++_}
+use mathlib.Core.Path.{_≡_, refl, sym, ap, _∙_}
 use mathlib.Core.Logic.{⊎-elim}
-use Prim.Native.Nat.{ℕ, suc, _+_, _≤_, _<_}
+use Prim.Native.Nat.{ℕ, zero, suc, _+_, _<_}
 use native.Mathlib.Decide.{ℕ-discrete}
 use native.Mathlib.Omega.{arith}
 use lib.Dec.{lit<}
@@ -11,42 +11,38 @@ use Rattle.table.specs.Kind as kind
 use Rattle.table.specs.Regions.{Regions}
 use Rattle.table.proofs.Fields.{item-fields, client-fields, count-fields, header-fields}
 use Rattle.table.proofs.Whole.{Agree}
-use Rattle.rules.specs.Rows.{headOr, lastOr, In, NotIn, All, Below, Distinct, Once}
+use Rattle.rules.specs.Rows.{headOr, lastOr, In, NotIn, All, Once}
 use Rattle.rules.specs.Linked as linked
 use Rattle.rules.specs.Linked.{Linked, Chain}
-use Rattle.rules.specs.Picture.{Item, Client, Picture, item, client, itemRow, clientRow, clientId, itemRows, clientRows, ownRows, concat}
+use Rattle.rules.specs.Picture.{Picture, item, client, itemRow, clientRow, clientId, itemRows, clientRows, ownRows, concat}
 use Rattle.rules.specs.Draw.{after, before, ownerOf, headerWords, drawn}
-use Rattle.rules.specs.Sound.{follow, build, shown, Right, Holds}
+use Rattle.rules.specs.Sound.{Right, Holds}
 use Rattle.rules.proofs.Put.{take-all}
-use Rattle.rules.proofs.Rows.{not-both, notin, in-either, in-below, below-in, below-right, distinct-right, apart-right, fills, head-any, last-any, rebuild, all-both, all-so}
-use Rattle.rules.proofs.Columns.{before-out, column-chain, after-out, afterIn-out, chain-head, column-chains, chains-column, in-concat, chain-distinct, ChainIn, chain-in, column-pair, free-column, first-is, last-is, linked-chain, on-is, back-is, linked-by, followed}
+use Rattle.rules.proofs.Rows.{not-both, notin, in-either, in-below, below-in, below-right, apart-right, fills, head-any, last-any}
+use Rattle.rules.proofs.Columns.{before-out, column-chain, after-out, afterIn-out, chain-head, column-chains, chains-column, ChainIn, chain-in, column-pair, free-column, first-is, last-is, on-is, back-is, linked-by}
 use Rattle.rules.proofs.Look.{find, look-out, look-in, look-all, own-in, own-out, own-distinct, own-of, owner-own, own-none}
 use Rattle.rules.proofs.Right.{items-distinct, items-below, clients-distinct, clients-below, counts-one, chained, listed}
 
 -- the columns that link one way
-abbrev later : Regions → ℕ → ℕ
+abbrev pub later : Regions → ℕ → ℕ
 later R r = R .item r kind.later
 
-abbrev heavier : Regions → ℕ → ℕ
+abbrev pub heavier : Regions → ℕ → ℕ
 heavier R r = R .client r kind.heavier
 
-abbrev next : Regions → ℕ → ℕ
+abbrev pub next : Regions → ℕ → ℕ
 next R r = R .client r kind.nextInBucket
 
 -- a fact of the chain of each bucket
 
 all-get : (F : List ℕ → Type 0) → F [] → (cs : List (List ℕ)) → All F cs → (b : ℕ) → F (getD cs b [])
 all-get F f [] a b = f
-all-get F f (c ∷ cs) a ℕ.zero = a .0
+all-get F f (c ∷ cs) a zero = a .0
 all-get F f (c ∷ cs) a (suc b) = all-get F f cs (a .1) b
 
 get-all : (F : List ℕ → Type 0) (cs : List (List ℕ)) → ((b : ℕ) → b < length cs → F (getD cs b [])) → All F cs
 get-all F [] h = tt
 get-all F (c ∷ cs) h = (h 0 (omega arith), get-all F cs (λ b l. h (suc b) (omega arith)))
-
-build-is : (f : ℕ → List ℕ) (cs : List (List ℕ)) → ((b : ℕ) → b < length cs → f b ≡ getD cs b []) → build (length cs) f ≡ cs
-build-is f [] h = refl
-build-is f (c ∷ cs) h = ap₂ _∷_ (h 0 (omega arith)) (build-is (λ b. f (suc b)) cs (λ b l. h (suc b) (omega arith)))
 
 -- the words of a free row are drawn 0, but for its link
 module _ (P : Picture) (v : Right P) (r : ℕ) where
@@ -87,8 +83,8 @@ region-agrees : (q k link : ℕ) (g d : ℕ → ℕ → ℕ) (xs ys : List ℕ) 
 region-agrees q k link g d xs ys h w on chain dz gz waits r f l m =
     ⊎-elim (λ i. waits r i f m)
     (λ i. elim (ℕ-discrete f link) [
-      yes e ↦ rw e (free-column q (λ r. g r link) xs ys w h chain r i ∙ sym (on r))
-    | no n ↦ gz r i f m n ∙ sym (dz r i f m n)
+      | yes e ↦ rw e (free-column q (λ r. g r link) xs ys w h chain r i ∙ sym (on r))
+      | no n ↦ gz r i f m n ∙ sym (dz r i f m n)
     ]) (in-either r xs ys (fills q (xs ++ ys) w r l))
 
 -- what holds a right picture agrees with its drawing
@@ -183,48 +179,4 @@ module _ (P : Picture) (v : Right P) (R : Regions) (a : Agree (P .size) R (drawn
         freeItem = λ r i f l n. a .item r f (in-below (P .size) (P .freeItems) (below-right (P .size) (itemRows P) (P .freeItems) (v .items .below)) r i) l ∙ item-zero P v r i f l n;
         freeClients = rw (a .header kind.freeClientAt (lit< tt)) (clients .1);
         freeClient = λ r i f l n. a .client r f (in-below (P .size) (P .freeClients) (below-right (P .size) (clientRows P) (P .freeClients) (v .clients .below)) r i) l ∙ client-zero P v r i f l n;
-      }
-
--- the regions show the picture that they hold
-module _ (P : Picture) (v : Right P) (R : Regions) (h : Holds R P) where
-  few : P .size ≤ kind.none
-  few = omega (arith, v .most)
-
-  reads : (o : ℕ → ℕ) (k : ℕ) (xs : List ℕ) → Distinct xs → Below (P .size) xs → Chain o k xs → follow (P .size) o (P .size) k ≡ xs
-  reads o k xs = followed (P .size) o k xs few
-
-  window-shown : shown (P .size) R .window ≡ P .window
-  window-shown =
-      let make : ℕ → Item = λ r. item r (R .item r kind.owner) (R .item r kind.ticket) in
-      ap (map make) (reads (later R) (R .header kind.frontAt) (itemRows P) (items-distinct P v) (items-below P v) (linked-chain (h .window)))
-      ∙ rebuild itemRow make (P .window) (all-both _ _ _ (P .window) (λ i e f. ap₂ (item (i .row)) e f) (h .owner) (h .ticket))
-
-  clients-shown : shown (P .size) R .clients ≡ P .clients
-  clients-shown =
-      let make : ℕ → Client = λ r. client r (R .client r kind.id) in
-      ap (map make) (reads (heavier R) (R .header kind.lightestAt) (clientRows P) (clients-distinct P v) (clients-below P v) (linked-chain (h .order)))
-      ∙ rebuild clientRow make (P .clients) (all-so _ _ (P .clients) (λ c e. ap (client (c .row)) e) (h .id))
-
-  free-shown : (o : ℕ → ℕ) (k : ℕ) (xs ys : List ℕ) → Once (P .size) (xs ++ ys) → Chain o k ys → follow (P .size) o (P .size) k ≡ ys
-  free-shown o k xs ys w = reads o k ys (distinct-right xs ys (w .distinct)) (below-right (P .size) xs ys (w .below))
-
-  chains-shown : shown (P .size) R .chains ≡ P .chains
-  chains-shown =
-      let chain : ℕ → List ℕ = λ b. follow (P .size) (next R) (P .size) (R .bucket b) in
-      ap (λ (n : ℕ). build n chain) (sym (v .buckets))
-      ∙ build-is chain (P .chains) (λ b l. reads (next R) (R .bucket b) (getD (P .chains) b []) (chain-distinct (P .chains) b (v .apart))
-      (below-in (P .size) (getD (P .chains) b []) (λ r i. in-below (P .size) (clientRows P) (clients-below P v) r (listed P v r (in-concat (P .chains) b r i))))
-      (h .chains b (rw (← v .buckets) l)))
-
-  pub holds-shown : shown (P .size) R ≡ P
-  holds-shown =
-      let freeItems = free-shown (later R) (R .header kind.freeItemAt) (itemRows P) (P .freeItems) (v .items) (h .freeItems) in
-      let freeClients = free-shown (heavier R) (R .header kind.freeClientAt) (clientRows P) (P .freeClients) (v .clients) (h .freeClients) in
-      λ i. record {
-        size = P .size;
-        window = window-shown i;
-        clients = clients-shown i;
-        freeItems = freeItems i;
-        freeClients = freeClients i;
-        chains = chains-shown i;
       }

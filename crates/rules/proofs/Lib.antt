@@ -1,4 +1,5 @@
--- Laws of the definitions.
+-- Laws of the definitions, from lists up: of rows and columns, of right pictures and their words, and of the steps on pictures.
+pub mod Choose
 pub mod Put
 pub mod Rows
 pub mod Linked
@@ -7,7 +8,14 @@ pub mod Columns
 pub mod Look
 pub mod Right
 pub mod Held
+pub mod Shown
 pub mod Decide
 pub mod Sound
 pub mod Empty
 pub mod Clients
+pub mod Plain
+pub mod Settle
+pub mod Moves
+pub mod Leaving
+pub mod Steps
+pub mod Written

@@ -48,6 +48,10 @@ pub take-all : {A : Type 0} (F : A → Type 0) {c : A} {xs ys : List A} → Put 
 take-all F here a = a
 take-all F (there p) a = let u = take-all F p (a .1) in (u .0, (a .0, u .1))
 
+pub all-puts : {A : Type 0} (F : A → Type 0) (ys : List A) → ((c : A) (xs : List A) → Put c xs ys → F c) → All F ys
+all-puts F [] h = tt
+all-puts F (y ∷ ys) h = (h y ys here, all-puts F ys (λ c xs p. h c (y ∷ xs) (there p)))
+
 -- who is in, and that each is there once
 
 pub put-in : {r : ℕ} {xs ys : List ℕ} (z : ℕ) → Put r xs ys → (z ≡ r) ⊎ In z xs → In z ys
@@ -74,6 +78,13 @@ pub take-distinct : {r : ℕ} {xs ys : List ℕ} → Put r xs ys → Distinct ys
 take-distinct here d = d
 take-distinct (there {x = x} p) d =
     let u = take-distinct p (d .1) in let n = take-notin x p (d .0) in ((λ e. n .0 (sym e), u .0), (n .1, u .1))
+
+-- by their keys
+pub put-there : {A : Type 0} (key : A → ℕ) {c : A} {xs ys : List A} → Put c xs ys → In (key c) (map key ys)
+put-there key {c} p = put-in (key c) (put-map key p) (inl refl)
+
+pub put-fresh : {A : Type 0} (key : A → ℕ) {c : A} {xs ys : List A} → Put c xs ys → Distinct (map key ys) → NotIn (key c) (map key xs)
+put-fresh key p d = take-distinct (put-map key p) d .0
 
 pub put-below : (q : ℕ) {r : ℕ} {xs ys : List ℕ} → Put r xs ys → r < q → Below q xs → Below q ys
 put-below q here h b = (h, b)
@@ -106,15 +117,15 @@ take-rising m (there {x = x} p) u = (u .0, take-rising x p (u .1))
 
 -- taken out by its key: `drop` is any function that leaves out the first of c's key
 pub take-out : {A : Type 0} (key : A → ℕ) {c : A} {xs ys : List A} (drop : List A → List A)
-    → ((x : A) (l : List A) → drop (x ∷ l) ≡ cond (eqb (key x) (key c)) l (x ∷ drop l)) → Put c xs ys → NotIn (key c) (map key xs) → drop ys ≡ xs
-take-out key {c} drop step (here {xs = xs}) n = step c xs ∙ rw (eq-eqb (key c) (key c) refl)
-take-out key {c} drop step (there {x = x} {ys = ys} p) n =
-    step x ys ∙ rw (ne-eqb (key x) (key c) (λ e. n .0 (sym e)), take-out key drop step p (n .1))
+    → ((x : A) (l : List A) → drop (x ∷ l) ≡ cond (eqb (key x) (key c)) l (x ∷ drop l)) → Put c xs ys → Distinct (map key ys) → drop ys ≡ xs
+take-out key {c} drop step (here {xs = xs}) d = step c xs ∙ rw (eq-eqb (key c) (key c) refl)
+take-out key {c} drop step (there {x = x} {ys = ys} p) d =
+    step x ys ∙ rw (ne-eqb (key x) (key c) (take-notin (key x) (put-map key p) (d .0) .0), take-out key drop step p (d .1))
 
 pub without-put : (r : ℕ) (xs : List ℕ) → In r xs → Put r (without r xs) xs
 without-put r [] i = absurd i
 without-put r (x ∷ xs) i =
     elim (ℕ-discrete x r) [
-      yes e ↦ rw (eq-eqb x r e) (subst (λ (z : ℕ). Put z xs (x ∷ xs)) e here)
-    | no n ↦ rw (ne-eqb x r n) (there (without-put r xs (⊎-elim (λ e. absurd (n (sym e))) (λ j. j) i)))
+      | yes e ↦ rw (eq-eqb x r e) (subst (λ (z : ℕ). Put z xs (x ∷ xs)) e here)
+      | no n ↦ rw (ne-eqb x r n) (there (without-put r xs (⊎-elim (λ e. absurd (n (sym e))) (λ j. j) i)))
     ]

@@ -1,18 +1,18 @@
 -- Laws of lists of rows, said once for every layer.
 use mathlib.Core.List.{List, [], _∷_, _++_, map}
-use mathlib.Core.Bool.{Bool, true, false, cond}
-use mathlib.Core.Path.{_≡_, refl, sym, ap, ap₂, _∙_, subst}
+use mathlib.Core.Bool.{Bool, true, false}
+use mathlib.Core.Path.{_≡_, refl, sym, ap, ap₂, subst}
 use mathlib.Core.Logic.{_⊎_, ⊎-elim, inl, inr}
 use Prim.Native.Nat.{ℕ, zero, suc, _≤_, _<_}
 use native.Mathlib.Nat.{not-suc-le-zero, le-of-suc-le-suc}
 use native.Mathlib.Omega.{arith}
 use lib.Dec.{eqb}
 use lib.ListN.{length}
-use borrow.Author.Tests.{eqb-true, eqb-false, eq-eqb, ne-eqb}
+use borrow.Author.Tests.{eqb-true, eqb-false, ne-eqb}
 use Rattle.table.specs.Regions.{upto}
 use Rattle.table.proofs.Draw.{length-upto}
-use Rattle.rules.specs.Rows.{headOr, lastOr, without, In, NotIn, All, Distinct, Below, Once, Rising}
-use Rattle.rules.proofs.Put.{Put, here, put-second, put-in, take-in, put-notin, take-notin, put-distinct, take-distinct, put-below, take-below, put-length, without-put}
+use Rattle.rules.specs.Rows.{headOr, lastOr, rest, without, In, NotIn, All, Distinct, Below, Once, Rising}
+use Rattle.rules.proofs.Put.{Put, here, put-map, put-second, all-puts, put-in, take-in, put-notin, take-notin, put-distinct, take-distinct, put-below, take-below, put-length, without-put}
 
 -- in and not in
 
@@ -154,6 +154,10 @@ pub last-any : (a b : ℕ) (xs : List ℕ) → 1 ≤ length xs → lastOr a xs �
 last-any a b [] h = absurd (not-suc-le-zero h)
 last-any a b (x ∷ xs) h = refl
 
+pub head-rest : (n : ℕ) (xs : List ℕ) → 1 ≤ length xs → xs ≡ headOr n xs ∷ rest xs
+head-rest n [] h = absurd (not-suc-le-zero h)
+head-rest n (x ∷ xs) h = refl
+
 -- a list without one of its rows
 
 -- nothing to take out
@@ -254,8 +258,7 @@ in-all F [] h = tt
 in-all F (x ∷ xs) h = (h x (inl refl), in-all F xs (λ r i. h r (inr i)))
 
 pub notin-all : {A : Type 0} (key : A → ℕ) (r : ℕ) (xs : List A) → NotIn r (map key xs) → All (λ x. r ≡ key x → ⊥) xs
-notin-all key r [] n = tt
-notin-all key r (x ∷ xs) n = (n .0, notin-all key r xs (n .1))
+notin-all key r xs n = all-puts (λ x. r ≡ key x → ⊥) xs (λ x ys p. take-notin r (put-map key p) n .0)
 
 pub all-snoc : {A : Type 0} (F : A → Type 0) (xs : List A) (x : A) → All F xs → F x → All F (xs ++ x ∷ [])
 all-snoc F [] x a f = (f, tt)
@@ -264,6 +267,10 @@ all-snoc F (y ∷ xs) x a f = (a .0, all-snoc F xs x (a .1) f)
 pub map-snoc : {A B : Type 0} (f : A → B) (xs : List A) (x : A) → map f (xs ++ x ∷ []) ≡ map f xs ++ (f x ∷ [])
 map-snoc f [] x = refl
 map-snoc f (y ∷ xs) x = ap (λ (l : List _). f y ∷ l) (map-snoc f xs x)
+
+pub map-so : {A B : Type 0} (f g : A → B) (xs : List A) → All (λ x. f x ≡ g x) xs → map f xs ≡ map g xs
+map-so f g [] a = refl
+map-so f g (x ∷ xs) a = ap₂ _∷_ (a .0) (map-so f g xs (a .1))
 
 pub rebuild : {A : Type 0} (key : A → ℕ) (make : ℕ → A) (xs : List A) → All (λ x. make (key x) ≡ x) xs → map make (map key xs) ≡ xs
 rebuild key make [] a = refl

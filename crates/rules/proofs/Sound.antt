@@ -1,6 +1,6 @@
 -- Soundness: a right picture has one drawing and is read back from it, a sound table has one picture, and the computed test says what the clauses say.
 use mathlib.Core.List.{List}
-use mathlib.Core.Bool.{true, _&&_}
+use mathlib.Core.Bool.{true}
 use mathlib.Core.Path.{_≡_, refl, sym, ap, _∙_}
 use Prim.Native.Nat.{ℕ}
 use lib.Dec.{lit<}
@@ -13,7 +13,8 @@ use Rattle.rules.specs.Picture.{Picture}
 use Rattle.rules.specs.Draw.{drawn, draw}
 use Rattle.rules.specs.Sound.{shown, picture, sound, Right, Holds, Shows, Sound}
 use Rattle.rules.proofs.Decide.{_&_, right-decides, same-decides}
-use Rattle.rules.proofs.Held.{holds-agree, agree-holds, holds-shown}
+use Rattle.rules.proofs.Held.{holds-agree, agree-holds}
+use Rattle.rules.proofs.Shown.{holds-shown}
 
 pub drawn-holds : (P : Picture) → Right P → Holds (drawn P) P
 drawn-holds P v = agree-holds P v (drawn P) (words-agree refl)
@@ -60,9 +61,12 @@ module _ (t : List ℕ) (e : sound t ≡ true) where
   pub sound-drawn : t ≡ draw (picture t)
   sound-drawn = sound-both .1
 
-  pub sound-shows : Shows t (picture t)
+  pub sound-words : t ≡ words (picture t .size) (drawn (picture t))
   unfolding draw
-  sound-shows = record { regs = drawn (picture t); drawn = sound-drawn; holds = drawn-holds (picture t) sound-right }
+  sound-words = sound-drawn
+
+  pub sound-shows : Shows t (picture t)
+  sound-shows = record { regs = drawn (picture t); drawn = sound-words; holds = drawn-holds (picture t) sound-right }
 
 -- and the clauses
 pub sound-clauses : (t : List ℕ) → sound t ≡ true → Sound t

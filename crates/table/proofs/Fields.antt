@@ -30,6 +30,6 @@ module _ (F : ℕ → Type 0) where
       → F kind.freeItemAt → F kind.freeClientAt → ((z : ℕ) → z < kind.zeros → F (kind.zerosAt + z)) → (f : ℕ) → f < kind.headerWords → F f
   header-fields a b c d e g h i j k zeros f l =
       elim (decLt f kind.zerosAt) [
-        yes s ↦ each kind.zerosAt F (a, (b, (c, (d, (e, (g, (h, (i, (j, (k, tt)))))))))) f s
-      | no n ↦ let past : kind.zerosAt + (f - kind.zerosAt) ≡ f = omega arith in subst F past (zeros (f - kind.zerosAt) (omega arith))
+        | yes s ↦ each kind.zerosAt F (a, (b, (c, (d, (e, (g, (h, (i, (j, (k, tt)))))))))) f s
+        | no n ↦ let past : kind.zerosAt + (f - kind.zerosAt) ≡ f = omega arith in subst F past (zeros (f - kind.zerosAt) (omega arith))
       ]
