@@ -1,6 +1,6 @@
--- What a step on one list leaves alone in another: free rows, the items of other clients, columns at other rows.
-use mathlib.Core.List.{List, [], _∷_, map}
-use mathlib.Core.Path.{_≡_, refl, sym, _∙_}
+-- Rows that a step on one list leaves alone: the free ones, the items of other clients, and rows that none of the items has.
+use mathlib.Core.List.{List, _∷_, map}
+use mathlib.Core.Path.{_≡_, sym, _∙_}
 use mathlib.Core.Logic.{⊎-elim, inl, inr}
 use Prim.Native.Nat.{ℕ, _≤_}
 use native.Mathlib.Omega.{arith}
@@ -14,18 +14,17 @@ use Rattle.rules.proofs.Rows.{other, apart-right, below-right, in-below, all-bo
 use Rattle.rules.proofs.Look.{own-in, owner-own}
 use Rattle.links.specs.Pools.{freeItems, Free}
 
--- the free rows, as a chain of blank rows
-pub spare : {q : ℕ} {R : Regions} {w : List Item} {free : List ℕ} → Queued q R w free → Free freeItems R free
-spare k = record { chain = k .chain; zeros = k .idle }
-
 module _ {q : ℕ} (hq : q ≤ kind.none) {R : Regions} {w : List Item} {free : List ℕ} (k : Queued q R w free) where
-  -- a free row neither waits nor is none
+  -- the free rows, as a chain of blank rows
+  pub spare : Free freeItems R free
+  spare = record { chain = k .chain; zeros = k .idle }
+
+  -- a free row is not none, and does not wait
   pub free-apart : (x y : ℕ) → In x free → In y (kind.none ∷ map itemRow w) → x ≡ y → ⊥
   free-apart x y i j e =
       ⊎-elim (λ z. omega (arith, z, in-below q free (below-right q (map itemRow w) free (k .each .below)) x i))
       (λ l. other x y (map itemRow w) (apart-right x (map itemRow w) free (k .each .distinct) i) l e) j
 
-  -- nor is it an item of client c
   pub free-own : (c x y : ℕ) → In x free → In y (kind.none ∷ ownRows c w) → x ≡ y → ⊥
   free-own c x y i j = free-apart x y i (⊎-elim (λ e. inl e) (λ l. inr (own-in c y w l)) j)
 

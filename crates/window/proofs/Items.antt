@@ -1,46 +1,32 @@
--- Lists of items, with one more at the end or without one: their rows and each client's own rows.
+-- Lists of items with one more at the end, or without one: what that does to each client's own rows.
 use mathlib.Core.List.{List, [], _∷_, _++_, map, map-id}
-use mathlib.Core.Bool.{Bool, true, false, cond}
 use mathlib.Core.Path.{_≡_, refl, sym, ap, _∙_}
 use Prim.Native.Nat.{ℕ}
 use native.Mathlib.Decide.{ℕ-discrete}
-use lib.Dec.{eqb}
 use borrow.Author.Tests.{eq-eqb, ne-eqb}
-use Rattle.rules.specs.Rows.{lastOr, without, In, NotIn, Distinct}
+use Rattle.rules.specs.Rows.{without, Distinct}
 use Rattle.rules.specs.Picture.{Item, itemRow, ownRows}
-use Rattle.rules.specs.Steps.{withoutItem, newestItem}
-use Rattle.rules.proofs.Put.{Put, put-map, take-distinct, take-out}
+use Rattle.rules.specs.Steps.{withoutItem}
+use Rattle.rules.proofs.Put.{Put, take-out}
 use Rattle.rules.proofs.Look.{own-put, own-kept, own-distinct}
 
--- one more at the end
-
+-- one more: it is the last of its owner's. (Everybody else's rows are as they were: `own-kept` of the rules)
 pub own-snoc : (c : ℕ) (w : List Item) (i : Item) → i .client ≡ c → ownRows c (w ++ i ∷ []) ≡ ownRows c w ++ i .row ∷ []
 own-snoc c [] i e = rw (eq-eqb (i .client) c e)
 own-snoc c (x ∷ w) i e =
     elim (ℕ-discrete (x .client) c) [
-      yes f ↦ rw (eq-eqb (x .client) c f) (ap (λ (l : List ℕ). x .row ∷ l) (own-snoc c w i e))
-    | no n ↦ rw (ne-eqb (x .client) c n) (own-snoc c w i e)
+      | yes f ↦ rw (eq-eqb (x .client) c f) (ap (λ (l : List ℕ). x .row ∷ l) (own-snoc c w i e))
+      | no n ↦ rw (ne-eqb (x .client) c n) (own-snoc c w i e)
     ]
 
--- the row of a client's newest item is the last of its own
-pub newest-row : (c : ℕ) (d : Item) (w : List Item) → newestItem c d w .row ≡ lastOr (d .row) (ownRows c w)
-newest-row c d [] = refl
-newest-row c d (i ∷ w) = newest-row c (cond (eqb (i .client) c) i d) w ∙ go (eqb (i .client) c)
-  where
-    go : (b : Bool) → lastOr (cond b i d .row) (ownRows c w) ≡ lastOr (d .row) (cond b (i .row ∷ ownRows c w) (ownRows c w))
-    go true = refl
-    go false = refl
-
--- without one
-
 pub put-without : {r : ℕ} {xs ys : List ℕ} → Put r xs ys → Distinct ys → without r ys ≡ xs
-put-without {r} p d = take-out (λ x. x) (without r) (λ x l. refl) p (rw map-id (take-distinct p d .0))
+put-without {r} p d = take-out (λ x. x) (without r) (λ x l. refl) p (rw map-id d)
 
+-- without one: its owner's rows are those but its own, and everybody else's are as they were
 module _ {i : Item} {v w : List Item} (p : Put i v w) (d : Distinct (map itemRow w)) where
   pub item-out : withoutItem (i .row) w ≡ v
-  item-out = take-out itemRow (withoutItem (i .row)) (λ x l. refl) p (take-distinct (put-map itemRow p) d .0)
+  item-out = take-out itemRow (withoutItem (i .row)) (λ x l. refl) p d
 
-  -- the owner's rows are those but this one, and everybody else's are as they were
   pub own-less : ownRows (i .client) (withoutItem (i .row) w) ≡ without (i .row) (ownRows (i .client) w)
   own-less = ap (ownRows (i .client)) item-out ∙ sym (put-without (own-put (i .client) p refl) (own-distinct (i .client) w d))
 

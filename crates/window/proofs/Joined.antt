@@ -27,17 +27,8 @@ use Rattle.links.proofs.Pools.{spare-take, spare-so}
 use Rattle.links.proofs.Lists.{insert-linked, insert-last, insert-apart}
 use Rattle.window.specs.Steps.{joined}
 use Rattle.window.proofs.Items.{own-snoc}
-use Rattle.window.proofs.Ends.{own-ends, last-row}
+use Rattle.window.proofs.Ends.{own-ends, first-snoc, last-snoc}
 use Rattle.window.proofs.Apart.{free-apart, free-own, owners-apart, all-at, spare}
-
--- the first row of an own list with one more at the end, e being its last before
-pub first-snoc : (q : ℕ) (e r old : ℕ) (xs : List ℕ) → q ≤ kind.none → Below q xs → e ≡ lastOr kind.none xs → old ≡ headOr 0 xs → cond (eqb kind.none e) r old ≡ headOr 0 (xs ++ r ∷ [])
-first-snoc q e r old [] hq b he h = rw he
-first-snoc q e r old (x ∷ xs) hq b he h = rw (he, ne-eqb kind.none (lastOr x xs) (last-row q hq x xs b)) h
-
-pub last-snoc : (p r : ℕ) (xs : List ℕ) → lastOr p (xs ++ r ∷ []) ≡ r
-last-snoc p r [] = refl
-last-snoc p r (x ∷ xs) = last-snoc x r xs
 
 module _ (q : ℕ) (hq : q ≤ kind.none) (R : Regions) (w : List Item) (free : List ℕ) (c ticket e : ℕ) (hc : c < q) (he : e ≡ lastOr kind.none (ownRows c w))
     (k : Queued q R w (R .header kind.freeItemAt ∷ free)) where
@@ -80,7 +71,7 @@ module _ (q : ℕ) (hq : q ≤ kind.none) (R : Regions) (w : List Item) (free : 
       let u = k .own c hc in
       record {
         linked = own-ends (insert-linked q hq (ended (linked.own c R) (headOr kind.none xs) (lastOr kind.none xs)) r e kind.none xs [] he refl (rw append-nil (own-out c r w fresh)) row (rw append-nil (u .linked)));
-        oldest = simp (eq-eqb c c refl) (first-snoc q e r (R .client c kind.oldest) xs hq (u .linked .below) he (u .oldest));
+        oldest = simp (eq-eqb c c refl) (first-snoc q hq e r (R .client c kind.oldest) xs (u .linked .below) he (u .oldest));
         newest = simp (eq-eqb c c refl) (sym (last-snoc 0 r xs));
       }
 
@@ -96,7 +87,7 @@ module _ (q : ℕ) (hq : q ≤ kind.none) (R : Regions) (w : List Item) (free : 
 
   taken : Queued q S (w ++ new ∷ []) free
   taken =
-      let spared = spare-so (S .item) free-kept (spare-take (spare k) .1) in
+      let spared = spare-so (S .item) free-kept (spare-take (spare hq k) .1) in
       record {
         waiting = omega (arith, k .waiting, length-append w (new ∷ []));
         window = rw (map-snoc itemRow w new) (insert-last q hq (linked.window R) r (map itemRow w) fresh row (k .window));

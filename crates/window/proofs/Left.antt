@@ -66,7 +66,7 @@ module _ (q : ℕ) (hq : q ≤ kind.none) (R : Regions) (i : Item) (v w : List I
   freed : Free freeItems S (r ∷ free)
   freed =
       let taken = notin r free (λ j. free-apart hq k r r j (inr (put-in r rows (inl refl))) refl) in
-      spare-free r taken (spare-so (leaveLists r R .item) free-kept (spare k))
+      spare-free r taken (spare-so (leaveLists r R .item) free-kept (spare hq k))
 
   mine : Own q S c (ownRows c v)
   mine =
@@ -89,7 +89,7 @@ module _ (q : ℕ) (hq : q ≤ kind.none) (R : Regions) (i : Item) (v w : List I
         newest = simp (ne-eqb d c (λ z. n (sym z))) (u .newest);
       }
 
-  pub left-put : Queued q S v (r ∷ free)
+  left-put : Queued q S v (r ∷ free)
   left-put =
       record {
         waiting = omega (arith, k .waiting, put-length p);

@@ -1,4 +1,4 @@
--- Laws of the waiting items.
+-- Laws of the waiting items, and of the functions' writes.
 pub mod Items
 pub mod Ends
 pub mod Owner
@@ -6,5 +6,6 @@ pub mod Apart
 pub mod Joined
 pub mod Left
 pub mod Kept
+pub mod Read
 pub mod Writes
 pub mod Shown
