@@ -1,27 +1,24 @@
 -- A join: the waiting items with one more at the end, and the free rows without the first.
 use mathlib.Core.List.{List, [], _∷_, _++_, map, append-nil, append-assoc}
-use mathlib.Core.Bool.{cond}
-use mathlib.Core.Path.{_≡_, refl, sym, ap, _∙_, subst}
-use mathlib.Core.Logic.{⊎-elim, inl, inr}
+use mathlib.Core.Path.{_≡_, refl, sym, subst}
+use mathlib.Core.Logic.{inl, inr}
 use Prim.Native.Nat.{ℕ, _+_, _≤_, _<_}
 use native.Mathlib.Decide.{ℕ-discrete}
 use native.Mathlib.Nat.{not-suc-le-zero}
 use native.Mathlib.Omega.{arith}
-use lib.Dec.{eqb}
 use lib.ListN.{length, length-append}
 use borrow.Author.Tests.{eq-eqb, ne-eqb}
 use Rattle.table.specs.Kind as kind
-use Rattle.table.specs.Regions.{Regions, at}
-use Rattle.table.proofs.Draw.{at-same, at-other, cond-same}
-use Rattle.rules.specs.Rows.{headOr, lastOr, rest, In, NotIn, All, Below}
+use Rattle.table.specs.Regions.{Regions}
+use Rattle.table.proofs.Draw.{at-same, cond-same}
+use Rattle.rules.specs.Rows.{headOr, lastOr, rest, In, NotIn}
 use Rattle.rules.specs.Linked as linked
-use Rattle.rules.specs.Linked.{Linked, Chain}
 use Rattle.rules.specs.Picture.{Item, item, itemRow, ownRows}
 use Rattle.rules.specs.Parts.{Own, Queued}
 use Rattle.rules.proofs.Put.{put-last}
-use Rattle.rules.proofs.Rows.{other, not-both, notin, in-left, apart-right, distinct-left, distinct-right, below-right, in-below, past, last-in, all-both, notin-all, all-snoc, map-snoc}
+use Rattle.rules.proofs.Rows.{other, apart-right, distinct-right, below-right, last-in, all-snoc, map-snoc}
 use Rattle.rules.proofs.Columns.{last-is}
-use Rattle.rules.proofs.Look.{own-kept, own-in, own-out, owner-own}
+use Rattle.rules.proofs.Look.{own-kept, own-out}
 use Rattle.links.specs.Steps.{ended}
 use Rattle.links.proofs.Pools.{spare-take, spare-so}
 use Rattle.links.proofs.Lists.{insert-linked, insert-last, insert-apart}
@@ -96,8 +93,8 @@ module _ (q : ℕ) (hq : q ≤ kind.none) (R : Regions) (w : List Item) (free : 
         owners = all-snoc _ w new (k .owners) hc;
         own = λ d hd.
             elim (ℕ-discrete c d) [
-              yes z ↦ rw (own-snoc d w new z) (subst (λ (y : ℕ). Own q S y (ownRows y w ++ r ∷ [])) z mine)
-            | no n ↦ rw (own-kept d (put-last new w) n) (others d hd n)
+              | yes z ↦ rw (own-snoc d w new z) (subst (λ (y : ℕ). Own q S y (ownRows y w ++ r ∷ [])) z mine)
+              | no n ↦ rw (own-kept d (put-last new w) n) (others d hd n)
             ];
         each = rw (map-snoc itemRow w new, append-assoc) (k .each);
         chain = spared .chain;

@@ -1,16 +1,15 @@
 -- A leave: the waiting items without one, whose row is the first free one.
-use mathlib.Core.List.{List, [], _∷_, _++_, map}
-use mathlib.Core.Path.{_≡_, refl, sym, ap, _∙_, subst}
-use mathlib.Core.Logic.{⊎-elim, inl, inr}
+use mathlib.Core.List.{List, _∷_, map}
+use mathlib.Core.Path.{_≡_, refl, sym, _∙_, subst}
+use mathlib.Core.Logic.{inl, inr}
 use Prim.Native.Nat.{ℕ, _-_, _≤_, _<_}
 use native.Mathlib.Decide.{ℕ-discrete}
 use native.Mathlib.Omega.{arith}
-use lib.ListN.{length}
 use borrow.Author.Tests.{eq-eqb, ne-eqb}
 use Rattle.table.specs.Kind as kind
 use Rattle.table.specs.Regions.{Regions}
-use Rattle.table.proofs.Draw.{at-same, cond-same}
-use Rattle.rules.specs.Rows.{headOr, lastOr, In, NotIn, Distinct}
+use Rattle.table.proofs.Draw.{cond-same}
+use Rattle.rules.specs.Rows.{In, NotIn}
 use Rattle.rules.specs.Linked as linked
 use Rattle.rules.specs.Linked.{Links, Linked}
 use Rattle.rules.specs.Picture.{Item, itemRow, ownRows}
@@ -19,7 +18,7 @@ use Rattle.rules.specs.Parts.{Own, Queued}
 use Rattle.rules.proofs.Put.{Put, here, put-map, put-first, put-second, put-length, put-in, put-once, take-all, take-distinct}
 use Rattle.rules.proofs.Rows.{notin}
 use Rattle.rules.proofs.Columns.{first-is, last-is}
-use Rattle.rules.proofs.Look.{find, own-kept, own-in, own-out, owner-own}
+use Rattle.rules.proofs.Look.{find, own-kept, own-out}
 use Rattle.links.specs.Steps.{unlink}
 use Rattle.links.specs.Pools.{freeItems, Free}
 use Rattle.links.proofs.Pools.{spare-free, spare-so}
@@ -99,8 +98,8 @@ module _ (q : ℕ) (hq : q ≤ kind.none) (R : Regions) (i : Item) (v w : List I
         owners = take-all _ p (k .owners) .1;
         own = λ d hd.
             elim (ℕ-discrete c d) [
-              yes z ↦ subst (λ (y : ℕ). Own q S y (ownRows y v)) z mine
-            | no n ↦ rw (sym (own-kept d p (λ z. n (owner-is p k ∙ z)))) (others d hd n)
+              | yes z ↦ subst (λ (y : ℕ). Own q S y (ownRows y v)) z mine
+              | no n ↦ rw (sym (own-kept d p (λ z. n (owner-is p k ∙ z)))) (others d hd n)
             ];
         each = put-once q (put-first free rows) (put-second (map itemRow v) here) (k .each);
         chain = freed .chain;

@@ -1,28 +1,23 @@
 -- What the functions ask of one another, from what the table shows.
-use mathlib.Core.List.{List, [], _∷_, map}
-use mathlib.Core.Path.{_≡_, sym, _∙_}
-use mathlib.Core.Logic.{inl}
+use mathlib.Core.List.{List, map}
+use mathlib.Core.Path.{_≡_, _∙_}
 use Prim.Native.Nat.{ℕ, _≤_, _<_}
-use native.Mathlib.Nat.{not-suc-le-zero}
 use native.Mathlib.Omega.{arith}
 use lib.Dec.{lit<}
-use lib.ListN.{length, getD, length-append, length-map}
+use lib.ListN.{getD, length-append, length-map}
 use Rattle.table.specs.Kind as kind
-use Rattle.table.specs.Regions.{Regions, words, Sized, Writes, itemWord, clientWord}
+use Rattle.table.specs.Regions.{Regions, Writes, itemWord, clientWord}
 use Rattle.table.proofs.Write.{read-header, read-item, read-client}
-use Rattle.rules.specs.Rows.{headOr, lastOr, In, Below}
-use Rattle.rules.specs.Linked as linked
-use Rattle.rules.specs.Linked.{Link, Linked}
+use Rattle.rules.specs.Linked.{Link}
 use Rattle.rules.specs.Picture.{Item, itemRow, ownRows}
-use Rattle.rules.specs.Parts.{Own, Queued}
-use Rattle.rules.proofs.Put.{take-all, put-in, put-length}
-use Rattle.rules.proofs.Rows.{below-right, in-below, last-in, head-some}
+use Rattle.rules.specs.Parts.{Queued}
+use Rattle.rules.proofs.Put.{put-length}
+use Rattle.rules.proofs.Rows.{below-right, in-below, head-some}
 use Rattle.rules.proofs.Linked.{last-link}
 use Rattle.rules.proofs.Columns.{chain-head}
-use Rattle.rules.proofs.Look.{find, own-put}
-use Rattle.links.specs.Strands.{theWindow, unlinkIn}
+use Rattle.rules.proofs.Look.{find}
 use Rattle.links.specs.Pools.{freeItems, takeFrom}
-use Rattle.links.proofs.Lists.{neighbour-links, end-links}
+use Rattle.links.proofs.Lists.{end-links}
 use Rattle.window.proofs.Owner.{Followed, row-followed}
 use Rattle.window.specs.Steps.{leaveOwn}
 use Rattle.window.specs.Shown.{Room, Waits}
@@ -76,11 +71,13 @@ module _ {q : ℕ} {t : List ℕ} {r : ℕ} (m : Waits q t r) where
       let R = s .regs in
       let f = words-followed in
       let is : c ≡ R .item r kind.owner = e ∙ read-item q R r kind.owner (s .drawn) (f .row) (lit< tt) in
-      rw (is,
-      read-item q R r kind.ownEarlier (s .drawn) (f .row) (lit< tt),
-      read-item q R r kind.ownLater (s .drawn) (f .row) (lit< tt),
-      read-client q R (R .item r kind.owner) kind.oldest (s .drawn) (f .client) (lit< tt),
-      read-client q R (R .item r kind.owner) kind.newest (s .drawn) (f .client) (lit< tt))
+      rw (
+        is,
+        read-item q R r kind.ownEarlier (s .drawn) (f .row) (lit< tt),
+        read-item q R r kind.ownLater (s .drawn) (f .row) (lit< tt),
+        read-client q R (R .item r kind.owner) kind.oldest (s .drawn) (f .client) (lit< tt),
+        read-client q R (R .item r kind.owner) kind.newest (s .drawn) (f .client) (lit< tt),
+      )
       ((f .client, f .row), (f .own, f .ends))
 
   pub window-asks : (c : ℕ) (a : List ℕ) → Writes q t a (leaveOwn c r) 2 → (r < q) × (Link q (itemWord a r kind.earlier) × Link q (itemWord a r kind.later))

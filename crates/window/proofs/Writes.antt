@@ -1,4 +1,4 @@
--- The functions' writes are the steps.
+-- The functions' writes are the steps: one after another, with what they read, and in each arm of a test.
 use mathlib.Core.List.{List}
 use mathlib.Core.Bool.{Bool, true, false, cond}
 use mathlib.Core.Path.{_≡_, refl, sym, ap, ap₂, _∙_}
@@ -7,14 +7,14 @@ use native.Mathlib.Decide.{ℕ-discrete}
 use native.Mathlib.Omega.{arith}
 use lib.Dec.{eqb, lit<}
 use lib.ListN.{getD}
-use borrow.Author.Tests.{eqb-true, eqb-false, eq-eqb, ne-eqb}
+use borrow.Author.Tests.{eq-eqb, ne-eqb}
 use Rattle.table.specs.Kind as kind
-use Rattle.table.specs.Regions.{Regions, words, at, Writes, itemWord, clientWord, setHeader, setItem, setClient}
+use Rattle.table.specs.Regions.{Regions, words, at, Writes, itemWord, clientWord, setHeader, setItem}
 use Rattle.table.proofs.Draw.{at-same, at-other, cond-same}
 use Rattle.table.proofs.Fields.{client-fields}
-use Rattle.table.proofs.Whole.{Agree, agree-words}
+use Rattle.table.proofs.Whole.{agree-words}
 use Rattle.table.proofs.Write.{then, so-read, read-header, read-item, read-client}
-use Rattle.links.specs.Strands.{theWindow, theOwn, unlinkIn}
+use Rattle.links.specs.Strands.{theWindow, theOwn, unlinkIn, insertIn, pushIn}
 use Rattle.links.specs.Pools.{freeItems, takeFrom, freeInto}
 use Rattle.window.proofs.Ends.{not-none}
 use Rattle.window.specs.Steps.{enterItem, joined, endWord, endWords, noOwn, leaveOwn, leaveLists, left}
@@ -28,7 +28,7 @@ cond-over true x y z = refl
 cond-over false x y z = refl
 
 module _ (q : ℕ) (hq : q ≤ kind.none) (c r : ℕ) where
-  -- the only item: both words are none then, and so 0
+  -- the only item goes: both of the client's words would be none, and so are 0
   alone : (R : Regions) → R .item r kind.ownEarlier ≡ kind.none → R .item r kind.ownLater ≡ kind.none → words q (noOwn c R) ≡ words q (leaveOwn c r R)
   alone R e l =
       let oldest : (x : ℕ) → noOwn c R .client x kind.oldest ≡ leaveOwn c r R .client x kind.oldest = λ x. simp (e, l, eq-eqb c c refl, cond-over) in
@@ -42,7 +42,7 @@ module _ (q : ℕ) (hq : q ≤ kind.none) (c r : ℕ) where
         bucket = λ b _. refl;
       })
 
-  -- words that are not none are ends
+  -- words that are not none stay
   ends-same : (R : Regions) → (kind.none ≡ R .client c kind.oldest → ⊥) → (kind.none ≡ R .client c kind.newest → ⊥) → words q R ≡ words q (endWords c R)
   ends-same R o n =
       agree-words {R = R} {S = endWords c R}
@@ -57,16 +57,16 @@ module _ (q : ℕ) (hq : q ≤ kind.none) (c r : ℕ) where
       stays : (g : ℕ → ℕ) (x : ℕ) → (kind.none ≡ g c → ⊥) → g x ≡ at g c (endWord (g c)) x
       stays g x m =
           elim (ℕ-discrete x c) [
-            yes z ↦ rw (z, ne-eqb kind.none (g c) m) (sym (at-same g c (g c)))
-          | no y ↦ sym (at-other g c _ x y)
+            | yes z ↦ rw (z, ne-eqb kind.none (g c) m) (sym (at-same g c (g c)))
+            | no y ↦ sym (at-other g c _ x y)
           ]
 
   -- the end of a list that keeps a row is not none
   end-left : (e l old : ℕ) → (e ≡ kind.none → l ≡ kind.none → ⊥) → old < q → kind.none ≡ cond (eqb kind.none e) l old → ⊥
   end-left e l old h o z =
       elim (ℕ-discrete kind.none e) [
-        yes y ↦ h (sym y) (sym (rw (eq-eqb kind.none e y) at z))
-      | no n ↦ not-none q hq old o (rw (ne-eqb kind.none e n) at z)
+        | yes y ↦ h (sym y) (sym (rw (eq-eqb kind.none e y) at z))
+        | no n ↦ not-none q hq old o (rw (ne-eqb kind.none e n) at z)
       ]
 
   module _ {t b : List ℕ} (hr : r < q) where
@@ -88,7 +88,12 @@ module _ (q : ℕ) (hq : q ≤ kind.none) (c r : ℕ) where
         (λ z. end-left (R .item r kind.ownEarlier) (R .item r kind.ownLater) (R .client c kind.oldest) both first (z ∙ at-same (λ y. R .client y kind.oldest) c _))
         (λ z. end-left (R .item r kind.ownLater) (R .item r kind.ownEarlier) (R .client c kind.newest) (λ y u. both u y) last (z ∙ at-same (λ y. R .client y kind.newest) c _)))
 
+-- one function after another, and what they read
 module _ (q : ℕ) {t : List ℕ} where
+  pub enter-writes : {a b d u : List ℕ} (r c ticket e : ℕ) → Writes q t a (pushIn theWindow r) 4 → Writes q a b (insertIn (theOwn c) r e kind.none) 4
+      → Writes q b d (setItem r kind.owner c) 1 → Writes q d u (setItem r kind.ticket ticket) 1 → Writes q t u (enterItem r c ticket e) 10
+  enter-writes r c ticket e x y z o = then (then (then x y) z) o
+
   pub leave-lists-writes : {a b : List ℕ} (c r : ℕ) → r < q → c ≡ itemWord t r kind.owner → Writes q t a (leaveOwn c r) 2 → Writes q a b (unlinkIn theWindow r) 2
       → Writes q t b (leaveLists r) 4
   leave-lists-writes c r hr e x y =

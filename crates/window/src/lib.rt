@@ -101,7 +101,15 @@ pub fn front(t: &[u32], q: usize) -> u32
     table::header(t, q, LinkedTable::FRONT_AT)
 }
 
-// The newest item row of the client in row c, which has one.
+// The oldest and the newest item row of the client in row c, which has one.
+pub fn oldest(t: &[u32], q: usize, c: u32) -> u32
+    requires { ⌜ Sized q (now t) ⌝ }
+    requires { ⌜ c < q ⌝ }
+    ensures { λ r. ⌜ r ≡ clientWord (now (t .entry)) q c kind.oldest ⌝ }
+{
+    table::client(t, q, c, LinkedTable::OLDEST)
+}
+
 pub fn newest(t: &[u32], q: usize, c: u32) -> u32
     requires { ⌜ Sized q (now t) ⌝ }
     requires { ⌜ c < q ⌝ }

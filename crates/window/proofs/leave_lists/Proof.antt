@@ -1,38 +1,29 @@
+-- `window::leave_lists` meets its contract: an item that waits is one of its client's own, and its links can be followed. Assumes nothing.
 use lib.Dec.{lit<}
 use Rattle.window.proofs.Writes.{leave-lists-writes}
 use Rattle.window.proofs.Shown.{waits-row, own-asks, window-asks}
 use borrow.Author.Needs.{needs}
 use Rattle.window.proofs.leave_lists.Statement.{statement}
 use Rattle.window.proofs.leave_lists.Tie as tie
-use Rattle.window.proofs.leave_lists.Reads as reads
-use Rattle.window.proofs.leave_lists.Lts as lts
-use Rattle.links.proofs.unlink_item.Reads as unlink-item-reads
-use Rattle.table.proofs.item.Reads as item-reads
-use Rattle.window.proofs.leave_own.Reads as leave-own-reads
 
--- src/lib.rt:64:9
 item-requires : tie.Need-item-requires
 item-requires c κs = let s = c .before .before in (s .pre .0, (waits-row (s .pre .1), lit< tt))
 
--- src/lib.rt:65:5
 leave-own-requires : tie.Need-leave-own-requires
 leave-own-requires c κs =
     let i = c .before in
     let s = i .before .before .before in
     (s .pre .0, own-asks (s .pre .1) _ (i .item .ensures))
 
--- src/lib.rt:66:5
 unlink-item-requires : tie.Need-unlink-item-requires
 unlink-item-requires c κs =
     let k = c .before .before .before in
     let s = k .before .before .before .before .before in
     (k .leave-own .ensures .1, window-asks (s .pre .1) _ _ (k .leave-own .ensures .0))
 
--- src/lib.rt:58:1
 same-length : tie.Need-same-length
 same-length c = search needs
 
--- src/lib.rt:58:1
 returns : tie.Need-returns
 returns c =
     let u = c .before .before in

@@ -1,3 +1,4 @@
+-- `window::leave_own` meets its contract: with no neighbour the client's words are 0, else they stay rows. Assumes nothing.
 use mathlib.Core.Path.{sym, _∙_}
 use mathlib.Core.Logic.{⊎-elim}
 use borrow.Author.Tests.{eqb-true, eqb-false}
@@ -5,33 +6,22 @@ use Rattle.window.proofs.Writes.{leave-alone, leave-others}
 use borrow.Author.Needs.{needs}
 use Rattle.window.proofs.leave_own.Statement.{statement}
 use Rattle.window.proofs.leave_own.Tie as tie
-use Rattle.window.proofs.leave_own.Reads as reads
-use Rattle.window.proofs.leave_own.Lts as lts
-use Rattle.links.proofs.unlink_own.Reads as unlink-own-reads
-use Rattle.table.proofs.item.Reads as item-reads
-use Rattle.window.proofs.no_own.Reads as no-own-reads
 
--- src/lib.rt:47:9
 item-requires : tie.Need-item-requires
 item-requires c κs = search needs
 
--- src/lib.rt:48:9
 item-requires-2 : tie.Need-item-requires-2
 item-requires-2 c κs = search needs
 
--- src/lib.rt:50:9
 no-own-requires : tie.Need-no-own-requires
 no-own-requires c κs = search needs
 
--- src/lib.rt:52:9
 unlink-own-requires : tie.Need-unlink-own-requires
 unlink-own-requires c κs = search needs
 
--- src/lib.rt:39:1
 same-length : tie.Need-same-length
 same-length c = search needs
 
--- src/lib.rt:39:1
 returns : tie.Need-returns
 returns c =
     let k = c .before .before in
@@ -43,11 +33,9 @@ returns c =
       k .no-own .ensures .1,
     )
 
--- src/lib.rt:39:1
 same-length-2 : tie.Need-same-length-2
 same-length-2 c = search needs
 
--- src/lib.rt:39:1
 returns-2 : tie.Need-returns-2
 returns-2 c =
     let k = c .before .before in

@@ -1,24 +1,18 @@
+-- `window::no_own` meets its contract: two words of the client's row. Assumes nothing.
 use Rattle.table.proofs.Write.{then}
 use borrow.Author.Needs.{needs}
 use Rattle.window.proofs.no_own.Statement.{statement}
 use Rattle.window.proofs.no_own.Tie as tie
-use Rattle.window.proofs.no_own.Reads as reads
-use Rattle.window.proofs.no_own.Lts as lts
-use Rattle.table.proofs.set_client.Reads as set-client-reads
 
--- src/lib.rt:34:5
 set-client-requires : tie.Need-set-client-requires
 set-client-requires c κs = search needs
 
--- src/lib.rt:35:5
 set-client-requires-2 : tie.Need-set-client-requires-2
 set-client-requires-2 c κs = search needs
 
--- src/lib.rt:28:1
 same-length : tie.Need-same-length
 same-length c = search needs
 
--- src/lib.rt:28:1
 returns : tie.Need-returns
 returns c =
     let k2 = c .before .before in
