@@ -46,14 +46,21 @@ module _ (q : ℕ) (hq : q ≤ kind.none) (R : Regions) (i : Item) (v w : List I
   rows : Put r (map itemRow v) (map itemRow w)
   rows = put-map itemRow p
 
+  -- in its lists before, in the window no more
+  there : In r (map itemRow w)
+  there = put-in r rows (inl refl)
+
+  own-in : In r (ownRows c w)
+  own-in = put-in r (own-rows p k) (inl refl)
+
   gone : NotIn r (map itemRow v)
   gone = take-distinct rows (k .window .distinct) .0
 
   -- the free rows are as they were
   free-kept : (x f : ℕ) → In x free → R .item x f ≡ leaveLists r R .item x f
   free-kept x f j =
-      let near = neighbours (k .window) r (put-in r rows (inl refl)) in
-      let own-near = neighbours (own-list p k) r (put-in r (own-rows p k) (inl refl)) in
+      let near = neighbours (k .window) r there in
+      let own-near = neighbours (own-list p k) r own-in in
       simp (
         ne-eqb x (R .item r kind.earlier) (free-apart hq k x _ j (near .0)),
         ne-eqb x (R .item r kind.later) (free-apart hq k x _ j (near .1)),
@@ -64,7 +71,7 @@ module _ (q : ℕ) (hq : q ≤ kind.none) (R : Regions) (i : Item) (v w : List I
 
   freed : Free freeItems S (r ∷ free)
   freed =
-      let taken = notin r free (λ j. free-apart hq k r r j (inr (put-in r rows (inl refl))) refl) in
+      let taken = notin r free (λ j. free-apart hq k r r j (inr there) refl) in
       spare-free r taken (spare-so (leaveLists r R .item) free-kept (spare hq k))
 
   mine : Own q S c (ownRows c v)
@@ -83,7 +90,7 @@ module _ (q : ℕ) (hq : q ≤ kind.none) (R : Regions) (i : Item) (v w : List I
       let u = k .own d hd in
       let stranger : NotIn r xs = rw (own-kept d p (λ z. n (owner-is p k ∙ z))) (own-out d r v gone) in
       record {
-        linked = elsewhere r 0 r 0 stranger stranger (unlink-apart q hq (ownRows c w) xs (owners-apart hq k c d n) (linked.own c R) r _ _ (put-in r (own-rows p k) (inl refl)) (own-list p k) (u .linked));
+        linked = elsewhere r 0 r 0 stranger stranger (unlink-apart q hq (ownRows c w) xs (owners-apart hq k c d n) (linked.own c R) r _ _ own-in (own-list p k) (u .linked));
         oldest = simp (ne-eqb d c (λ z. n (sym z))) (u .oldest);
         newest = simp (ne-eqb d c (λ z. n (sym z))) (u .newest);
       }
