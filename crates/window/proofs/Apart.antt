@@ -14,7 +14,7 @@ use Rattle.rules.proofs.Rows.{other, apart-right, below-right, in-below, all-bo
 use Rattle.rules.proofs.Look.{own-in, owner-own}
 use Rattle.links.specs.Pools.{freeItems, Free}
 
-module _ {q : ℕ} (hq : q ≤ kind.none) {R : Regions} {w : List Item} {free : List ℕ} (k : Queued q R w free) where
+module _ {q : ℕ} (hq : q ≤ kind.largest) {R : Regions} {w : List Item} {free : List ℕ} (k : Queued q R w free) where
   -- the free rows, as a chain of blank rows
   pub spare : Free freeItems R free
   spare = record { chain = k .chain; zeros = k .idle }

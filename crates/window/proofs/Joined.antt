@@ -28,7 +28,7 @@ use Rattle.window.proofs.Items.{own-snoc}
 use Rattle.window.proofs.Ends.{own-ends, first-snoc, last-snoc}
 use Rattle.window.proofs.Apart.{free-apart, free-own, owners-apart, all-new, spare}
 
-module _ (q : ℕ) (hq : q ≤ kind.none) (R : Regions) (w : List Item) (free : List ℕ) (c ticket e : ℕ) (hc : c < q) (he : e ≡ lastOr kind.none (ownRows c w))
+module _ (q : ℕ) (hq : q ≤ kind.largest) (R : Regions) (w : List Item) (free : List ℕ) (c ticket e : ℕ) (hc : c < q) (he : e ≡ lastOr kind.none (ownRows c w))
     (k : Queued q R w (R .header kind.freeItemAt ∷ free)) where
   -- the row that is taken, and the item in it
   abbrev r : ℕ
@@ -106,7 +106,7 @@ module _ (q : ℕ) (hq : q ≤ kind.none) (R : Regions) (w : List Item) (free : 
         idle = spared .zeros;
       }
 
-pub joined-queued : {q : ℕ} {R : Regions} {w : List Item} {free : List ℕ} → q ≤ kind.none → (c ticket e : ℕ) → c < q
+pub joined-queued : {q : ℕ} {R : Regions} {w : List Item} {free : List ℕ} → q ≤ kind.largest → (c ticket e : ℕ) → c < q
     → e ≡ lastOr kind.none (ownRows c w) → 1 ≤ length free → Queued q R w free
     → Queued q (joined c ticket e R) (w ++ item (headOr kind.none free) c ticket ∷ []) (rest free)
 joined-queued {free = []} hq c ticket e hc he h k = absurd (not-suc-le-zero h)

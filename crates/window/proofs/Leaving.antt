@@ -26,7 +26,7 @@ cond-over : (b : Bool) (x y z : ℕ) → cond b x (cond b y z) ≡ cond b x z
 cond-over true x y z = refl
 cond-over false x y z = refl
 
-module _ (q : ℕ) (hq : q ≤ kind.none) (c r : ℕ) where
+module _ (q : ℕ) (hq : q ≤ kind.largest) (c r : ℕ) where
   -- without neighbours, both of the client's words would be none, and so are 0
   alone : (R : Regions) → R .item r kind.ownEarlier ≡ kind.none → R .item r kind.ownLater ≡ kind.none → words q (noOwn c R) ≡ words q (leaveOwn c r R)
   alone R e l =

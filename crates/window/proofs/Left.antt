@@ -29,10 +29,10 @@ use Rattle.window.proofs.Ends.{own-ends, end-first, end-last}
 use Rattle.window.proofs.Owner.{owner-is, own-rows, own-list}
 use Rattle.window.proofs.Apart.{free-apart, free-own, owners-apart, all-at, spare}
 
-unlink-put : (q : ℕ) → q ≤ kind.none → (L : Links) {r : ℕ} {xs ys : List ℕ} → Put r xs ys → Linked q L ys → Linked q (unlink r L) xs
+unlink-put : (q : ℕ) → q ≤ kind.largest → (L : Links) {r : ℕ} {xs ys : List ℕ} → Put r xs ys → Linked q L ys → Linked q (unlink r L) xs
 unlink-put q hq L {r} {xs} {ys} p k = subst (Linked q (unlink r L)) (put-without p (k .distinct)) (unlink-in q hq L r ys (put-in r p (inl refl)) k)
 
-module _ (q : ℕ) (hq : q ≤ kind.none) (R : Regions) (i : Item) (v w : List Item) (free : List ℕ) (p : Put i v w) (k : Queued q R w free) where
+module _ (q : ℕ) (hq : q ≤ kind.largest) (R : Regions) (i : Item) (v w : List Item) (free : List ℕ) (p : Put i v w) (k : Queued q R w free) where
   abbrev r : ℕ
   r = i .row
 
@@ -113,7 +113,7 @@ module _ (q : ℕ) (hq : q ≤ kind.none) (R : Regions) (i : Item) (v w : List I
         idle = freed .zeros;
       }
 
-pub left-queued : {q : ℕ} {R : Regions} {w : List Item} {free : List ℕ} → q ≤ kind.none → (r : ℕ) → In r (map itemRow w) → Queued q R w free
+pub left-queued : {q : ℕ} {R : Regions} {w : List Item} {free : List ℕ} → q ≤ kind.largest → (r : ℕ) → In r (map itemRow w) → Queued q R w free
     → Queued q (left r R) (withoutItem r w) (r ∷ free)
 left-queued {q} {R} {w} {free} hq r h k =
     let f = find itemRow r w h in

@@ -28,7 +28,7 @@ returns c =
     let i2 = two .before .before in
     let i1 = i2 .before .before in
     let s = i1 .before .before .before in (
-      leave-alone _ (search needs) _ _ (s .pre .1 .0 .1) _ _ (i1 .item .ensures) (i2 .item2 .ensures)
+      leave-alone _ (s .pre .0 .small) _ _ (s .pre .1 .0 .1) _ _ (i1 .item .ensures) (i2 .item2 .ensures)
           (two .before .if1 .taken) (eqb-true _ _ (two .if2 .taken)) (k .no-own .ensures .0),
       k .no-own .ensures .1,
     )
@@ -43,7 +43,7 @@ returns-2 c =
     let i2 = j .before in
     let i1 = i2 .before .before in
     let s = i1 .before .before .before in (
-      leave-others _ (search needs) _ _ (s .pre .1 .0 .1) _ _ (i1 .item .ensures) (i2 .item2 .ensures) (s .pre .1 .0 .0) (s .pre .1 .1 .1 .0) (s .pre .1 .1 .1 .1)
+      leave-others _ (s .pre .0 .small) _ _ (s .pre .1 .0 .1) _ _ (i1 .item .ensures) (i2 .item2 .ensures) (s .pre .1 .0 .0) (s .pre .1 .1 .1 .0) (s .pre .1 .1 .1 .1)
           (λ e l. ⊎-elim (λ a. eqb-false _ _ (a .1 .left) l) (λ a. a .left e) (j .if1 .came)) (k .unlink-own .ensures .0),
       k .unlink-own .ensures .1,
     )
