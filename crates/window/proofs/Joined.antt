@@ -30,7 +30,7 @@ use Rattle.window.proofs.Apart.{free-apart, free-own, owners-apart, all
 
 module _ (q : ℕ) (hq : q ≤ kind.largest) (R : Regions) (w : List Item) (free : List ℕ) (c ticket e : ℕ) (hc : c < q) (he : e ≡ lastOr kind.none (ownRows c w))
     (k : Queued q R w (R .header kind.freeItemAt ∷ free)) where
-  -- the row that is taken, and the item in it
+  -- the row that is taken, the item in it, and the table then
   abbrev r : ℕ
   r = R .header kind.freeItemAt
 
@@ -66,6 +66,7 @@ module _ (q : ℕ) (hq : q ≤ kind.largest) (R : Regions) (w : List Item) (free
         cond-same,
       )
 
+  -- the client's own list, and everybody else's
   mine : Own q S c (ownRows c w ++ r ∷ [])
   mine =
       let xs = ownRows c w in

@@ -29,6 +29,7 @@ use Rattle.window.proofs.Ends.{own-ends, end-first, end-last}
 use Rattle.window.proofs.Owner.{owner-is, own-rows, own-list}
 use Rattle.window.proofs.Apart.{free-apart, free-own, owners-apart, all-at, spare}
 
+-- a row goes out of a linked list
 unlink-put : (q : ℕ) → q ≤ kind.largest → (L : Links) {r : ℕ} {xs ys : List ℕ} → Put r xs ys → Linked q L ys → Linked q (unlink r L) xs
 unlink-put q hq L {r} {xs} {ys} p k = subst (Linked q (unlink r L)) (put-without p (k .distinct)) (unlink-in q hq L r ys (put-in r p (inl refl)) k)
 
@@ -40,6 +41,7 @@ module _ (q : ℕ) (hq : q ≤ kind.largest) (R : Regions) (i : Item) (v w : Lis
   abbrev c : ℕ
   c = R .item r kind.owner
 
+  -- the table then
   abbrev S : Regions
   S = left r R
 
@@ -71,9 +73,10 @@ module _ (q : ℕ) (hq : q ≤ kind.largest) (R : Regions) (i : Item) (v w : Lis
 
   freed : Free freeItems S (r ∷ free)
   freed =
-      let taken = notin r free (λ j. free-apart hq k r r j (inr there) refl) in
-      spare-free r taken (spare-so (leaveLists r R .item) free-kept (spare hq k))
+      let waits = notin r free (λ j. free-apart hq k r r j (inr there) refl) in
+      spare-free r waits (spare-so (leaveLists r R .item) free-kept (spare hq k))
 
+  -- the client's own list, and everybody else's
   mine : Own q S c (ownRows c v)
   mine =
       let out = take-distinct (own-rows p k) (own-list p k .distinct) .0 in
