@@ -5,13 +5,13 @@ use mathlib.Core.Path.{_≡_, refl, ap}
 use mathlib.Core.Logic.{⊎-elim}
 use Prim.Native.Nat.{ℕ, zero, suc, _+_, _≤_, _<_}
 use native.Mathlib.Omega.{arith}
-use lib.ListN.{length}
+use lib.ListN.{length, replicate, length-replicate}
 use Rattle.table.specs.Kind as kind
 use Rattle.rules.specs.Rows.{In, Distinct, Once}
 use Rattle.rules.specs.History.{nobody}
 use Rattle.rules.specs.Picture.{concat, plain}
 use Rattle.rules.specs.Draw.{draw}
-use Rattle.rules.specs.Steps.{count-up, times, empty}
+use Rattle.rules.specs.Steps.{count-up, empty}
 use Rattle.rules.specs.Sound.{picture, sound, Right}
 use Rattle.rules.proofs.Rows.{notin, below-in}
 use Rattle.rules.proofs.Decide.{range-decides}
@@ -38,13 +38,9 @@ count-up-once q =
       long = count-up-length q 0;
     }
 
-times-length : {A : Type 0} (n : ℕ) (x : A) → length (times n x) ≡ n
-times-length zero x = refl
-times-length (suc n) x = ap suc (times-length n x)
-
-concat-times : (n : ℕ) → concat (times n []) ≡ []
-concat-times zero = refl
-concat-times (suc n) = concat-times n
+concat-empty : (n : ℕ) → concat (replicate n []) ≡ []
+concat-empty zero = refl
+concat-empty (suc n) = concat-empty n
 
 module _ (q : ℕ) (e : kind.inRange q ≡ true) where
   pub empty-right : Right (empty q)
@@ -57,10 +53,10 @@ module _ (q : ℕ) (e : kind.inRange q ≡ true) where
         owners = tt;
         counts = tt;
         ids = tt;
-        buckets = times-length q [];
+        buckets = length-replicate q [];
         stands = tt;
-        apart = rw (concat-times q) tt;
-        nobody = rw (concat-times q) tt;
+        apart = rw (concat-empty q) tt;
+        nobody = rw (concat-empty q) tt;
       }
 
   pub empty-sound : sound (draw (empty q)) ≡ true

@@ -15,7 +15,7 @@ use Rattle.rules.proofs.Columns.{in-concat, chain-distinct, linked-chai
 use Rattle.rules.proofs.Right.{items-distinct, items-below, clients-distinct, clients-below, listed}
 use Rattle.rules.proofs.Held.{later, heavier, next}
 
-build-is : (f : ℕ → List ℕ) (cs : List (List ℕ)) → ((b : ℕ) → b < length cs → f b ≡ getD cs b []) → build (length cs) f ≡ cs
+pub build-is : (f : ℕ → List ℕ) (cs : List (List ℕ)) → ((b : ℕ) → b < length cs → f b ≡ getD cs b []) → build (length cs) f ≡ cs
 build-is f [] h = refl
 build-is f (c ∷ cs) h = ap₂ _∷_ (h 0 (omega arith)) (build-is (λ b. f (suc b)) cs (λ b l. h (suc b) (omega arith)))
 

@@ -1,0 +1,5 @@
+-- What the proofs of the lookup share.
+pub mod Writers
+pub mod Walks
+pub mod Rooms
+pub mod Ready
