@@ -1,0 +1,4 @@
+-- Laws of the order of clients.
+pub mod Joined
+pub mod Sorted
+pub mod Grouped

@@ -1,0 +1,2 @@
+-- What the order layer does to the regions of a table.
+pub mod Moves
