@@ -1,2 +1,3 @@
 -- Laws of the lists, and of the code's writes.
 pub mod Lists
+pub mod Strands

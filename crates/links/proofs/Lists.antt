@@ -38,19 +38,23 @@ Ring b o p xs n = Run b o p (o p) xs n (b n)
 lead : (b o o′ : ℕ → ℕ) (p v : ℕ) (ys : List ℕ) (n : ℕ) → Distinct (n ∷ ys) → o′ v ≡ headOr n ys → ((x : ℕ) → In x ys → o x ≡ o′ x)
     → Ring b o p ys n → Ring (at b (headOr n ys) v) o′ v ys n
 lead b o o′ p v [] n d e g r = (e, at-same b n v)
-lead b o o′ p v (y ∷ ys) n d e g r =
-    (e, at-same b y v,
-    run-so b o (at b y v) o′ y (o y) (o′ y) ys n (b n) (at b y v n) (g y (inl refl)) (sym (at-other b y v n (d .0 .0)))
-    (λ x i. (sym (at-other b y v x (λ z. other y x ys (d .1 .0) i (sym z))), g x (inr i))) (r .2))
+lead b o o′ p v (y ∷ ys) n d e g r = (
+  e,
+  at-same b y v,
+  run-so b o (at b y v) o′ y (o y) (o′ y) ys n (b n) (at b y v n) (g y (inl refl)) (sym (at-other b y v n (d .0 .0)))
+      (λ x i. (sym (at-other b y v x (λ z. other y x ys (d .1 .0) i (sym z))), g x (inr i))) (r .2),
+)
 
 -- the last of the rows xs is turned to v, and what follows it is another list
 trail : (b o b′ : ℕ → ℕ) (p v : ℕ) (xs ys zs : List ℕ) (n : ℕ) → Distinct (p ∷ xs) → ((x : ℕ) → In x xs → b x ≡ b′ x)
     → (Ring b o (lastOr p xs) ys n → Ring b′ (at o (lastOr p xs) v) (lastOr p xs) zs n)
     → Ring b o p (xs ++ ys) n → Ring b′ (at o (lastOr p xs) v) p (xs ++ zs) n
 trail b o b′ p v [] ys zs n d g t r = t r
-trail b o b′ p v (x ∷ xs) ys zs n d g t r =
-    (at-other o (lastOr x xs) v p (other p (lastOr x xs) (x ∷ xs) (d .0) (last-in x xs)) ∙ r .0, sym (g x (inl refl)) ∙ r .1,
-    trail b o b′ x v xs ys zs n (d .1) (λ y i. g y (inr i)) t (r .2))
+trail b o b′ p v (x ∷ xs) ys zs n d g t r = (
+  at-other o (lastOr x xs) v p (other p (lastOr x xs) (x ∷ xs) (d .0) (last-in x xs)) ∙ r .0,
+  sym (g x (inl refl)) ∙ r .1,
+  trail b o b′ x v xs ys zs n (d .1) (λ y i. g y (inr i)) t (r .2),
+)
 
 -- m stands for none. The links of the two neighbours e and l are turned, e's to v and l's to w
 module _ (b o : ℕ → ℕ) (m : ℕ) (xs ys : List ℕ) (d : Distinct (m ∷ xs ++ ys)) where

@@ -14,13 +14,17 @@ linkOn e v L = record { back = L .back; on = at (L .on) e v; first = cond (eqb k
 abbrev pub linkBack : ℕ → ℕ → Links → Links
 linkBack l v L = record { back = at (L .back) l v; on = L .on; first = L .first; last = cond (eqb kind.none l) v (L .last) }
 
-abbrev pub unlink : ℕ → Links → Links
-unlink r L = linkBack (L .on r) (L .back r) (linkOn (L .back r) (L .on r) L)
+-- the link on from e becomes v, and the link back from l becomes w
+abbrev pub turn : ℕ → ℕ → ℕ → ℕ → Links → Links
+turn e v l w L = linkBack l w (linkOn e v L)
 
--- r between e and l
+-- row r goes out: its neighbours are linked to each other
+abbrev pub unlink : ℕ → Links → Links
+unlink r L = turn (L .back r) (L .on r) (L .on r) (L .back r) L
+
+-- row r comes between e and l
 abbrev pub insert : ℕ → ℕ → ℕ → Links → Links
-insert r e l L =
-    linkBack l r (linkOn e r (record { back = at (L .back) r e; on = at (L .on) r l; first = L .first; last = L .last }))
+insert r e l L = turn e r l r (record { back = at (L .back) r e; on = at (L .on) r l; first = L .first; last = L .last })
 
 -- the columns of one list with the ends of another
 abbrev pub ended : Links → ℕ → ℕ → Links
