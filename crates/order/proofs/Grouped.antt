@@ -9,13 +9,14 @@ use lib.Dec.{eqb}
 use borrow.Author.Tests.{eq-eqb, ne-eqb, eqb-true}
 use Rattle.table.specs.Kind as kind
 use Rattle.table.specs.Regions.{Regions, at}
+use Rattle.table.proofs.Draw.{cond-same}
 use Rattle.rules.specs.Rows.{headOr, lastOr, without, In, NotIn, Distinct, Below}
 use Rattle.rules.specs.Linked.{Links, Linked, Run, order}
-use Rattle.rules.proofs.Rows.{other, in-left, in-right, notin-right, distinct-left, distinct-right, below-left, below-right, in-below, last-in, in-without, Split, split-at}
+use Rattle.rules.proofs.Rows.{other, in-left, in-right, notin-right, distinct-left, distinct-right, below-left, below-right, in-below, last-in, head-in, Split, split-at}
 use Rattle.rules.proofs.Linked.{run-head}
-use Rattle.links.proofs.Lists.{unlink-linked, insert-linked}
+use Rattle.links.proofs.Lists.{unlink-linked, insert-linked, neighbours}
 use Rattle.order.specs.Moves.{endWithout, orElse, takeOut, after, putIn, raiseAfter, lowerBefore, lowerAfter}
-use Rattle.order.proofs.Joined.{joined, but, above, parts, parts-but, below-but, upto-suc, of-but}
+use Rattle.order.proofs.Joined.{joined, but, above, parts, parts-but, below-but, upto-suc, of-but, in-joined}
 use Rattle.order.proofs.Sorted.{Counted, counted-out, counted-put, whole, left-out}
 
 pub record Grouped (q : ℕ) (R : Regions) (c : ℕ → ℕ) (g : ℕ → List ℕ) : Type 0 where
@@ -148,6 +149,13 @@ module _ (q : ℕ) (hq : q ≤ kind.largest) (R : Regions) (c : ℕ → ℕ) (g 
               (λ e. rw (light-of, heavy-of, s .rest) (heavy-end r (R .client r kind.lighter) (joined g 0 i) (s .left) (s .right) distinct (near .0))) (o .heavyEnd k h));
         }
 
+    -- a row that is not in the list keeps its words
+    pub taken-aside : (x f : ℕ) → NotIn x (kind.none ∷ joined g 0 q) → takeOut r R .client x f ≡ R .client x f
+    taken-aside x f n =
+        let near = neighbours (o .linked) r (in-joined g i q r hi m) in
+        let away : (y : ℕ) → In y (kind.none ∷ joined g 0 q) → x ≡ y → ⊥ = λ y j. other x y (kind.none ∷ joined g 0 q) n j in
+        simp (ne-eqb x (R .client r kind.lighter) (away _ (near .0)), ne-eqb x (R .client r kind.heavier) (away _ (near .1)), cond-same)
+
     -- raised, it comes to stand after all no heavier, itself left out
     pub raise-after : raiseAfter r R ≡ lastOr kind.none (joined (but g i (without r (g i))) 0 (suc i))
     raise-after =
@@ -187,17 +195,32 @@ module _ (q : ℕ) (hq : q ≤ kind.largest) (R : Regions) (c : ℕ → ℕ) (g 
           (ap (λ (x : ℕ). R .client x kind.lighter) lower-before ∙ head-back (order R) r (joined g 0 k) onward all there)
 
   -- r put in group i, after all lighter
-  pub placed-grouped : (n e : ℕ) → n ≡ suc i → r < q → NotIn r (joined g 0 q) → e ≡ lastOr kind.none (joined g 0 i)
-      → Grouped q (putIn r n e R) (at c r n) (but g i (r ∷ g i))
-  placed-grouped n e hn hr out he =
-      let k : Linked q (order R) (joined g 0 i ++ (g i ++ above g i q)) = subst (Linked q (order R)) (parts g i q hi) (o .linked) in
-      let row : n - 1 ≡ i = omega arith in
-      record {
-        linked = rw (parts-but g i q (r ∷ g i) hi)
-            (insert-linked q (omega arith) (order R) r e (after e R) (joined g 0 i) (g i ++ above g i q) he (after-last q hq R e (joined g 0 i) (g i ++ above g i q) k he) (subst (NotIn r) (parts g i q hi) out) hr k);
-        counted = counted-put (λ x. R .client x kind.count) q g r i n hi hn out (o .counted);
-        sorted = counted-put c q g r i n hi hn out (o .sorted);
-        lightEnd = λ j h. rw row (of-but (λ v l. v ≡ headOr kind.none l) j i _ _ (r ∷ g i) (g j) (λ z. refl) (o .lightEnd j h));
-        heavyEnd = λ j h. rw row (of-but (λ v l. v ≡ lastOr kind.none l) j i _ _ (r ∷ g i) (g j)
-            (λ z. rw (o .heavyEnd i hi) (or-last q hq r (g i) (below-left q (g i) _ (below-right q (joined g 0 i) _ (k .below))))) (o .heavyEnd j h));
-      }
+  module _ (n e : ℕ) (he : e ≡ lastOr kind.none (joined g 0 i)) where
+    abbrev onto : List ℕ
+    onto = g i ++ above g i q
+
+    cut : Linked q (order R) (joined g 0 i ++ onto)
+    cut = subst (Linked q (order R)) (parts g i q hi) (o .linked)
+
+    pub placed-after : after e R ≡ headOr kind.none onto
+    placed-after = after-last q hq R e (joined g 0 i) onto cut he
+
+    pub placed-grouped : n ≡ suc i → r < q → NotIn r (joined g 0 q) → Grouped q (putIn r n e R) (at c r n) (but g i (r ∷ g i))
+    placed-grouped hn hr out =
+        let row : n - 1 ≡ i = omega arith in
+        record {
+          linked = rw (parts-but g i q (r ∷ g i) hi)
+              (insert-linked q (omega arith) (order R) r e (after e R) (joined g 0 i) onto he placed-after (subst (NotIn r) (parts g i q hi) out) hr cut);
+          counted = counted-put (λ x. R .client x kind.count) q g r i n hi hn out (o .counted);
+          sorted = counted-put c q g r i n hi hn out (o .sorted);
+          lightEnd = λ k h. rw row (of-but (λ v l. v ≡ headOr kind.none l) k i _ _ (r ∷ g i) (g k) (λ z. refl) (o .lightEnd k h));
+          heavyEnd = λ k h. rw row (of-but (λ v l. v ≡ lastOr kind.none l) k i _ _ (r ∷ g i) (g k)
+              (λ z. rw (o .heavyEnd i hi) (or-last q hq r (g i) (below-left q (g i) (above g i q) (below-right q (joined g 0 i) onto (cut .below))))) (o .heavyEnd k h));
+        }
+
+    pub placed-aside : (x f : ℕ) → (x ≡ r → ⊥) → NotIn x (kind.none ∷ joined g 0 q) → putIn r n e R .client x f ≡ R .client x f
+    placed-aside x f a b =
+        let near-e : In e (kind.none ∷ joined g 0 q) = rw (he, parts g i q hi) (⊎-elim (λ z. inl z) (λ j. inr (in-left _ (joined g 0 i) onto j)) (last-in kind.none (joined g 0 i))) in
+        let near-l : In (after e R) (kind.none ∷ joined g 0 q) = rw (placed-after, parts g i q hi) (⊎-elim (λ z. inl z) (λ j. inr (in-right _ (joined g 0 i) onto j)) (head-in kind.none onto)) in
+        let away : (y : ℕ) → In y (kind.none ∷ joined g 0 q) → x ≡ y → ⊥ = λ y j. other x y (kind.none ∷ joined g 0 q) b j in
+        simp (ne-eqb x r a, ne-eqb x e (away e near-e), ne-eqb x (after e R) (away (after e R) near-l), cond-same)

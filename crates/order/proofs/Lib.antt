@@ -2,3 +2,4 @@
 pub mod Joined
 pub mod Sorted
 pub mod Grouped
+pub mod Ordered

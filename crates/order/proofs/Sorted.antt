@@ -136,11 +136,13 @@ module _ (c : ℕ → ℕ) where
       ∙ ap (place c x) (joined-groups q (c x) xs (omega (arith, s .0)) (s .1) (λ y j. h y (inr j)))
       ∙ place-first x xs (s .1)
 
--- with a new row, whose count is that of its group
+-- another count for a row that is in none of the groups; and that row in the group of its count
+pub counted-at : (c : ℕ → ℕ) (q : ℕ) (g : ℕ → List ℕ) (r n : ℕ) → NotIn r (joined g 0 q) → Counted c q g → Counted (at c r n) q g
+counted-at c q g r n out f k x l j = at-other c r n x (λ z. other r x (joined g 0 q) out (in-joined g k q x l j) (sym z)) ∙ f k x l j
+
 pub counted-put : (c : ℕ → ℕ) (q : ℕ) (g : ℕ → List ℕ) (r i n : ℕ) → i < q → n ≡ suc i → NotIn r (joined g 0 q) → Counted c q g → Counted (at c r n) q (but g i (r ∷ g i))
 counted-put c q g r i n h e out f k x l =
-    let others : In x (g k) → at c r n x ≡ suc k =
-    λ j. at-other c r n x (λ z. other r x (joined g 0 q) out (in-joined g k q x l j) (sym z)) ∙ f k x l j in
+    let others = counted-at c q g r n out f k x l in
     of-but (λ v xs. In x xs → at c r n x ≡ suc k) k i k k (r ∷ g i) (g k)
     (λ z j. ⊎-elim (λ w. rw w (at-same c r n ∙ e ∙ ap suc (sym z))) (λ w. others (rw z w)) j) others
 
