@@ -28,7 +28,7 @@ upd-same g r f i j = go (eqb j f) refl (eqb i r) refl
     go true e false h = refl
     go false e b h = refl
 
-upd-other : (g : ℕ → ℕ → ℕ) (r f v i j : ℕ) → (i ≡ r → ⊥) → upd g r f v i j ≡ g i j
+pub upd-other : (g : ℕ → ℕ → ℕ) (r f v i j : ℕ) → (i ≡ r → ⊥) → upd g r f v i j ≡ g i j
 upd-other g r f v i j n = rw (ne-eqb i r n) (cond-same (eqb j f) (g i j))
 
 -- rows of one kind stand in the words: a word read, a word written, and words that agree draw the same
@@ -37,6 +37,7 @@ pub record Stands (q : ℕ) (g : Region) : Type 0 where
   pub set : (R : Regions) (r f v : ℕ) → r < g .number q → f < g .width → lib.ListN.set (words q R) (g .from q + g .width * r + f) v ≡ words q (put g r f v R)
   pub so : (R : Regions) (a b : ℕ → ℕ → ℕ) → ((r f : ℕ) → r < g .number q → f < g .width → a r f ≡ b r f) → words q (g .with a R) ≡ words q (g .with b R)
   pub whole : (R : Regions) → g .with (g .word R) R ≡ R
+  pub again : (R : Regions) (a : ℕ → ℕ → ℕ) (r f v : ℕ) → put g r f v (g .with a R) ≡ g .with (upd a r f v) R
   pub within : (r f : ℕ) → r < g .number q → f < g .width → g .from q + g .width * r + f < kind.size q
 
 module _ (q : ℕ) where
@@ -55,6 +56,7 @@ module _ (q : ℕ) where
         set = header-set;
         so = λ R a b h. agree-words {R = header .with a R} {S = header .with b R} (record { header = λ f l. h 0 f (lit< tt) l; item = λ r f _ _. refl; client = λ r f _ _. refl; count = λ r f _ _. refl; bucket = λ b _. refl });
         whole = λ R. refl;
+        again = λ R a r f v. refl;
         within = λ r f h hf. omega arith;
       }
 
@@ -65,6 +67,7 @@ module _ (q : ℕ) where
         set = set-item q;
         so = λ R a b h. agree-words {R = items .with a R} {S = items .with b R} (record { header = λ f _. refl; item = h; client = λ r f _ _. refl; count = λ r f _ _. refl; bucket = λ b _. refl });
         whole = λ R. refl;
+        again = λ R a r f v. refl;
         within = λ r f h hf. omega arith;
       }
 
@@ -75,6 +78,7 @@ module _ (q : ℕ) where
         set = set-client q;
         so = λ R a b h. agree-words {R = clients .with a R} {S = clients .with b R} (record { header = λ f _. refl; item = λ r f _ _. refl; client = h; count = λ r f _ _. refl; bucket = λ b _. refl });
         whole = λ R. refl;
+        again = λ R a r f v. refl;
         within = λ r f h hf. omega arith;
       }
 

@@ -2,3 +2,4 @@
 pub mod Steps
 pub mod Strands
 pub mod Places
+pub mod Pools

@@ -1,11 +1,12 @@
 // Doubly linked rows and free chains inside a table.
 ghost use mathlib.Core.Path.{_≡_};
-ghost use Prim.Native.Nat.{_<_, _≤_};
+ghost use Prim.Native.Nat.{_+_, _<_, _≤_};
 ghost use lib.ListN.{length, getD, set};
 ghost use Rattle.table.specs.Kind as kind;
 ghost use Rattle.table.specs.Regions.{Sized, Writes, itemWord, clientWord};
 ghost use Rattle.rules.specs.Linked.{Link};
 ghost use Rattle.links.specs.Strands.{theWindow, theOrder, theOwn, unlinkIn, insertIn, pushIn};
+ghost use Rattle.links.specs.Pools.{freeItems, freeClients, takeFrom, freeInto, blanked};
 ghost use Rattle.links.specs.Places.{places, wordAt, linkAt, backWord, onWord, Ends, Row, Reach, turned, unlinked, inserted, pushed};
 use table::LinkedTable;
 
@@ -209,4 +210,70 @@ pub fn push_own(t: &mut [u32], q: usize, c: u32, r: u32)
     ensures { λ _. ⌜ Sized q (now (t .exit)) ⌝ }
 {
     push(t, own(q, c), r);
+}
+
+// The n words from a place on become 0, but for the one at `link`, which becomes v.
+fn blank(t: &mut [u32], from: usize, n: usize, link: usize, v: u32)
+    requires { ⌜ from + n ≤ length (now t) ⌝ }
+    ensures { λ _. ⌜ now (t .exit) ≡ blanked from link v n (now (t .entry)) ⌝ }
+{
+    let mut f = 0;
+    while f < n {
+        t[from + f] = if f == link { v } else { 0 };
+        f += 1;
+    }
+}
+
+// The first free item row, taken off its chain.
+pub fn take_item(t: &mut [u32], q: usize) -> u32
+    requires { ⌜ Sized q (now t) ⌝ }
+    requires { ⌜ getD (now t) kind.freeItemAt 0 < q ⌝ }
+    ensures { λ r. ⌜ r ≡ getD (now (t .entry)) kind.freeItemAt 0 ⌝ }
+    ensures { λ _. ⌜ Writes q (now (t .entry)) (now (t .exit)) (takeFrom freeItems) 1 ⌝ }
+    ensures { λ _. ⌜ Sized q (now (t .exit)) ⌝ }
+{
+    let r = table::header(t, q, LinkedTable::FREE_ITEM_AT);
+    let next = table::item(t, q, r, LinkedTable::LATER);
+    table::set_header(t, q, LinkedTable::FREE_ITEM_AT, next);
+    r
+}
+
+// An item row becomes blank, and the first free one.
+pub fn free_item(t: &mut [u32], q: usize, r: u32)
+    requires { ⌜ Sized q (now t) ⌝ }
+    requires { ⌜ r < q ⌝ }
+    ensures { λ _. ⌜ Writes q (now (t .entry)) (now (t .exit)) (freeInto freeItems r) 7 ⌝ }
+    ensures { λ _. ⌜ Sized q (now (t .exit)) ⌝ }
+{
+    let first = table::header(t, q, LinkedTable::FREE_ITEM_AT);
+    let row = LinkedTable::HEADER + LinkedTable::ITEM * (r as usize);
+    blank(t, row, LinkedTable::ITEM, LinkedTable::LATER, first);
+    table::set_header(t, q, LinkedTable::FREE_ITEM_AT, r);
+}
+
+// The first free client row, taken off its chain.
+pub fn take_client(t: &mut [u32], q: usize) -> u32
+    requires { ⌜ Sized q (now t) ⌝ }
+    requires { ⌜ getD (now t) kind.freeClientAt 0 < q ⌝ }
+    ensures { λ r. ⌜ r ≡ getD (now (t .entry)) kind.freeClientAt 0 ⌝ }
+    ensures { λ _. ⌜ Writes q (now (t .entry)) (now (t .exit)) (takeFrom freeClients) 1 ⌝ }
+    ensures { λ _. ⌜ Sized q (now (t .exit)) ⌝ }
+{
+    let r = table::header(t, q, LinkedTable::FREE_CLIENT_AT);
+    let next = table::client(t, q, r, LinkedTable::HEAVIER);
+    table::set_header(t, q, LinkedTable::FREE_CLIENT_AT, next);
+    r
+}
+
+// A client row becomes blank, and the first free one.
+pub fn free_client(t: &mut [u32], q: usize, r: u32)
+    requires { ⌜ Sized q (now t) ⌝ }
+    requires { ⌜ r < q ⌝ }
+    ensures { λ _. ⌜ Writes q (now (t .entry)) (now (t .exit)) (freeInto freeClients r) 8 ⌝ }
+    ensures { λ _. ⌜ Sized q (now (t .exit)) ⌝ }
+{
+    let first = table::header(t, q, LinkedTable::FREE_CLIENT_AT);
+    let row = LinkedTable::HEADER + LinkedTable::ITEM * q + LinkedTable::CLIENT * (r as usize);
+    blank(t, row, LinkedTable::CLIENT, LinkedTable::HEAVIER, first);
+    table::set_header(t, q, LinkedTable::FREE_CLIENT_AT, r);
 }
