@@ -3,3 +3,4 @@ pub mod Joined
 pub mod Sorted
 pub mod Grouped
 pub mod Ordered
+pub mod Calls

@@ -11,17 +11,21 @@ use Rattle.table.specs.Kind as kind
 use Rattle.table.specs.Regions.{Regions, at}
 use Rattle.table.proofs.Draw.{at-same}
 use Rattle.rules.specs.Rows.{headOr, lastOr, without, In, NotIn, Distinct, Below, Once, Rising}
-use Rattle.rules.specs.Linked.{Linked, Chain, order}
+use Rattle.rules.specs.Linked.{Link, Linked, order}
 use Rattle.rules.specs.History.{place}
 use Rattle.rules.specs.Draw.{group}
 use Rattle.rules.specs.Parts.{Ordered}
-use Rattle.rules.proofs.Rows.{not-both, in-either, in-left, in-right, apart-right, distinct-right, distinct-both, in-below, below-in, in-without, notin-without, without-length, gone, Within, split-at}
+use Rattle.rules.proofs.Rows.{not-both, in-either, in-left, in-right, apart-right, distinct-right, distinct-both, in-below, below-in, below-left, below-right, in-without, notin-without, without-length, gone, Within, split-at}
+use Rattle.rules.proofs.Linked.{head-link, last-link}
 use Rattle.links.specs.Pools.{Spare}
+use Rattle.links.proofs.Lists.{neighbour-links}
 use Rattle.links.proofs.Pools.{spare-so}
-use Rattle.order.specs.Moves.{takeOut, putIn, raiseAfter, raised, lowerAfter, lowered}
-use Rattle.order.proofs.Joined.{joined, but, Among, among}
+use Rattle.order.specs.Moves.{takeOut, after, putIn, raiseAfter, raised, lowerBefore, lowerAfter, lowered}
+use Rattle.order.specs.Asks.{Standing}
+use Rattle.order.proofs.Joined.{joined, but, above, parts, Among, among}
 use Rattle.order.proofs.Sorted.{Counted, groups, group-in, in-group, joined-groups, group-joined, rising-joined, place-joined, counted-at, place-in, place-length, without-joined}
-use Rattle.order.proofs.Grouped.{Grouped, taken-grouped, taken-aside, raise-after, lower-after, placed-grouped, placed-aside}
+use Rattle.order.proofs.Grouped.{Grouped, taken-grouped, taken-aside, raise-after, lower-after, placed-after, placed-grouped, placed-aside}
+use Rattle.order.proofs.Grouped as grouped
 
 -- the free rows, with zeros in this layer's words but the chain's
 abbrev pub Spared : Regions → List ℕ → Type 0
@@ -105,6 +109,14 @@ module _ {q : ℕ} {R : Regions} {rows : List ℕ} {n : ℕ → ℕ} {free : Lis
     out : NotIn r (joined others 0 q)
     out = rw rest (gone r rows there (o .linked .distinct))
 
+    -- e and the row after it, where r is put in again in group j
+    next-links : (j e : ℕ) → j < q → e ≡ lastOr kind.none (joined others 0 j) → Link q e × Link q (after e (takeOut r R))
+    next-links j e hj he =
+        let b : Below q (joined others 0 j ++ (others j ++ above others j q)) = rw (parts others j q hj) at (taken .linked .below) in (
+          rw he (last-link q (joined others 0 j) (below-left q (joined others 0 j) _ b)),
+          rw (placed-after q hq (takeOut r R) n others taken r j hj 0 e he) (head-link q (others j ++ above others j q) (below-right q (joined others 0 j) _ b)),
+        )
+
     -- r put in again, in group j, with the count m
     module _ (m j e : ℕ) (hm : m ≡ suc j) (hj : j < q) (he : e ≡ lastOr kind.none (joined others 0 j)) where
       placed : Grouped q (putIn r m e (takeOut r R)) (at n r m) (but others j (r ∷ others j))
@@ -138,16 +150,46 @@ module _ {q : ℕ} {R : Regions} {rows : List ℕ} {n : ℕ → ℕ} {free : Lis
           (simp length-append (ap (λ (k : ℕ). k + length free) as-long)))
           (spare-so (putIn r m e (takeOut r R) .client) (λ x f k. idle x f k) (spared o))
 
-    -- one more, one less: the count that was read is n's
-    pub raised-ordered : n r < q → Ordered q (raised r R) (place (at n r (n r + 1)) r (without r rows)) (at n r (n r + 1)) free
-    raised-ordered h =
-        subst (λ (k : ℕ). Ordered q (raised r R) (place (at n r (k + 1)) r (without r rows)) (at n r (k + 1)) free) (o .counted r there)
-        (moved (R .client r kind.count + 1) (suc i) (raiseAfter r R) (omega (arith, count-is .0)) (omega (arith, count-is .1))
-        (raise-after q hq R n g (to-groups o) r i within (mine .there)))
+    -- what the code asks of r
+    pub stands : Standing q r R
+    stands =
+        let near = neighbour-links (o .linked) r there in
+        record { row = row; least = omega (arith, count-is .0); most = omega (arith, count-is .0, within); lighter = near .0; heavier = near .1 }
 
-    pub lowered-ordered : 2 ≤ n r → Ordered q (lowered r R) (place (at n r (n r - 1)) r (without r rows)) (at n r (n r - 1)) free
-    lowered-ordered h =
-        let e : suc (i - 1) ≡ i = omega (arith, count-is .1) in
-        subst (λ (k : ℕ). Ordered q (lowered r R) (place (at n r (k - 1)) r (without r rows)) (at n r (k - 1)) free) (o .counted r there)
-        (moved (R .client r kind.count - 1) (i - 1) (lowerAfter r R) (omega (arith, count-is .0, e)) (omega (arith, within))
-        (lower-after q hq R n g (to-groups o) r i within (mine .there) (i - 1) e))
+    -- one more
+    module _ (h : n r < q) where
+      up : suc i < q
+      up = omega (arith, count-is .1)
+
+      e-up : raiseAfter r R ≡ lastOr kind.none (joined others 0 (suc i))
+      e-up = raise-after q hq R n g (to-groups o) r i within (mine .there)
+
+      pub raise-links : Link q (raiseAfter r R) × Link q (after (raiseAfter r R) (takeOut r R))
+      raise-links = next-links (suc i) (raiseAfter r R) up e-up
+
+      pub raised-ordered : Ordered q (raised r R) (place (at n r (n r + 1)) r (without r rows)) (at n r (n r + 1)) free
+      raised-ordered =
+          subst (λ (k : ℕ). Ordered q (raised r R) (place (at n r (k + 1)) r (without r rows)) (at n r (k + 1)) free) (o .counted r there)
+          (moved (R .client r kind.count + 1) (suc i) (raiseAfter r R) (omega (arith, count-is .0)) up e-up)
+
+    -- one less
+    module _ (h : 2 ≤ n r) where
+      below : suc (i - 1) ≡ i
+      below = omega (arith, count-is .1)
+
+      down : i - 1 < q
+      down = omega (arith, within)
+
+      e-down : lowerAfter r R ≡ lastOr kind.none (joined others 0 (i - 1))
+      e-down = lower-after q hq R n g (to-groups o) r i within (mine .there) (i - 1) below
+
+      pub lower-links : Link q (lowerAfter r R) × Link q (after (lowerAfter r R) (takeOut r R))
+      lower-links = next-links (i - 1) (lowerAfter r R) down e-down
+
+      pub lower-row : lowerBefore r R < q
+      lower-row = grouped.lower-row q hq R n g (to-groups o) r i within (mine .there) (i - 1) below
+
+      pub lowered-ordered : Ordered q (lowered r R) (place (at n r (n r - 1)) r (without r rows)) (at n r (n r - 1)) free
+      lowered-ordered =
+          subst (λ (k : ℕ). Ordered q (lowered r R) (place (at n r (k - 1)) r (without r rows)) (at n r (k - 1)) free) (o .counted r there)
+          (moved (R .client r kind.count - 1) (i - 1) (lowerAfter r R) (omega (arith, count-is .0, below)) down e-down)

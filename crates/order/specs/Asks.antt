@@ -1,0 +1,36 @@
+-- What the functions of the order ask of a table, and what they find in it.
+use mathlib.Core.List.{List}
+use mathlib.Core.Path.{_≡_}
+use Prim.Native.Nat.{ℕ, _≤_, _<_}
+use Rattle.table.specs.Kind as kind
+use Rattle.table.specs.Regions.{Regions, words}
+use Rattle.rules.specs.Rows.{In}
+use Rattle.rules.specs.Linked.{Link}
+use Rattle.rules.specs.Parts.{Ordered}
+
+-- a value read out of a table is f of whatever regions it is drawn from
+pub record Finds (q : ℕ) (t : List ℕ) (f : Regions → ℕ) (x : ℕ) : Type 0 where
+  pub is : (R : Regions) → t ≡ words q R → x ≡ f R
+
+-- a table is drawn from regions of which F holds
+pub record Drawn (q : ℕ) (t : List ℕ) (F : Regions → Type 0) : Type 0 where
+  pub regs : Regions
+  pub drawn : t ≡ words q regs
+  pub holds : F regs
+
+-- a row with a count in range, and links that can be followed
+pub record Standing (q r : ℕ) (R : Regions) : Type 0 where
+  pub row : r < q
+  pub least : 1 ≤ R .client r kind.count
+  pub most : R .client r kind.count ≤ q
+  pub lighter : Link q (R .client r kind.lighter)
+  pub heavier : Link q (R .client r kind.heavier)
+
+-- a client in row r, with a count of which F holds
+pub record Client (q r : ℕ) (F : ℕ → Type 0) (R : Regions) : Type 0 where
+  pub rows : List ℕ
+  pub count : ℕ → ℕ
+  pub free : List ℕ
+  pub ordered : Ordered q R rows count free
+  pub there : In r rows
+  pub counts : F (count r)
