@@ -2,5 +2,7 @@
 pub mod Joined
 pub mod Sorted
 pub mod Grouped
+pub mod Bridge
+pub mod Frames
 pub mod Ordered
 pub mod Calls

@@ -4,192 +4,238 @@ use mathlib.Core.Bool.{Bool, true, false, cond}
 use mathlib.Core.Path.{_≡_, refl, sym, ap, ap₂, _∙_, subst}
 use mathlib.Core.Logic.{⊎-elim, inl, inr}
 use Prim.Native.Nat.{ℕ, zero, suc, _+_, _-_, _≤_, _<_}
+use native.Mathlib.Nat.{not-suc-le-zero}
+use native.Mathlib.Numerals.{add-one}
 use native.Mathlib.Omega.{arith}
+use borrow.Author.Tests.{eq-eqb, ne-eqb}
 use lib.Dec.{eqb, leb}
 use lib.ListN.{length, length-append}
 use Rattle.table.specs.Kind as kind
 use Rattle.table.specs.Regions.{Regions, at}
-use Rattle.table.proofs.Draw.{at-same}
-use Rattle.rules.specs.Rows.{headOr, lastOr, without, In, NotIn, Distinct, Below, Once, Rising}
+use Rattle.table.proofs.Draw.{cond-same, at-same}
+use Rattle.table.proofs.Fields.{each}
+use Rattle.rules.specs.Rows.{headOr, lastOr, rest, without, In, NotIn, Distinct, Below, Once, Rising}
 use Rattle.rules.specs.Linked.{Link, Linked, order}
 use Rattle.rules.specs.History.{place}
 use Rattle.rules.specs.Draw.{group}
 use Rattle.rules.specs.Parts.{Ordered}
-use Rattle.rules.proofs.Rows.{not-both, in-either, in-left, in-right, apart-right, distinct-right, distinct-both, in-below, below-in, below-left, below-right, in-without, notin-without, without-length, gone, Within, split-at}
+use Rattle.rules.proofs.Rows.{not-both, in-either, in-left, in-right, apart-right, meets, distinct-right, distinct-drop, distinct-put, distinct-both, other, notin, notin-both, without-distinct, in-below, below-in, below-left, below-right, in-without, notin-without, without-length, gone, Within, split-at}
 use Rattle.rules.proofs.Linked.{head-link, last-link}
 use Rattle.links.specs.Pools.{Spare}
-use Rattle.links.proofs.Lists.{neighbour-links}
-use Rattle.links.proofs.Pools.{spare-so}
-use Rattle.order.specs.Moves.{takeOut, after, putIn, raiseAfter, raised, lowerBefore, lowerAfter, lowered}
+use Rattle.links.proofs.Lists.{neighbour-links, elsewhere}
+use Rattle.links.proofs.Pools.{spare-so, spare-take}
+use Rattle.lookup.specs.Book.{enterRow, leaveRow}
+use Rattle.order.specs.Moves.{takeOut, after, putIn, raiseAfter, raised, lowerBefore, lowerAfter, lowered, takeRow, admitted, freeRow, dismissed}
 use Rattle.order.specs.Asks.{Standing}
-use Rattle.order.proofs.Joined.{joined, but, above, parts, Among, among}
+use Rattle.order.proofs.Joined.{joined, but, above, parts, parts-but}
 use Rattle.order.proofs.Sorted.{Counted, groups, group-in, in-group, joined-groups, group-joined, rising-joined, place-joined, counted-at, place-in, place-length, without-joined}
 use Rattle.order.proofs.Grouped.{Grouped, taken-grouped, taken-aside, raise-after, lower-after, placed-after, placed-grouped, placed-aside}
-use Rattle.order.proofs.Grouped as grouped
+use Rattle.order.proofs.Frames.{ordered-so}
+use Rattle.order.proofs.Bridge.{Spared, from-groups, in-order, to-groups, spared, once-so, Out, taken-out, free-aside}
 
--- the free rows, with zeros in this layer's words but the chain's
-abbrev pub Spared : Regions → List ℕ → Type 0
-Spared R free = Spare kind.heavier (R .client) kind.heavier (R .header kind.freeClientAt) free
+module _ {q : ℕ} {R : Regions} {rows : List ℕ} {n : ℕ → ℕ} {free : List ℕ} (hq : q ≤ kind.largest) (o : Ordered q R rows n free) (r : ℕ) (there : In r rows) where
+  u : Out q R rows n r
+  u = taken-out hq o r there
 
--- by the list and by its groups
+  -- r is put in again, in group j, after e
+  module _ (j e : ℕ) (hj : j < q) (he : e ≡ lastOr kind.none (joined (u .others) 0 j)) where
+    next-links : Link q e × Link q (after e (takeOut r R))
+    next-links =
+        let less = joined (u .others) 0 j in
+        let more = u .others j ++ above (u .others) j q in
+        let b : Below q (less ++ more) = rw (parts (u .others) j q hj) at (u .taken .linked .below) in
+        (rw he (last-link q less (below-left q less more b)), rw (placed-after q hq (takeOut r R) n (u .others) (u .taken) r j hj 0 e he) (head-link q more (below-right q less more b)))
 
-from-groups : {q : ℕ} {R : Regions} {n : ℕ → ℕ} {g : ℕ → List ℕ} {free : List ℕ} (rows : List ℕ) → Grouped q R n g → joined g 0 q ≡ rows
-    → R .header kind.clientsAt ≡ length rows → Once q (rows ++ free) → Spared R free → Ordered q R rows n free
-from-groups {q} {R} {n} {g} rows o is number each spare =
-    let same : (k : ℕ) → k < q → g k ≡ group n (suc k) rows = λ k h. sym (ap (group n (suc k)) (sym is) ∙ group-joined n q g (o .sorted) k h) in
-    record {
-      number = number;
-      linked = subst (Linked q (order R)) is (o .linked);
-      counted = λ r i. let a = among g 0 q r (rw is i) in o .counted (a .group) r (omega (arith, a .most)) (a .there) ∙ sym (o .sorted (a .group) r (omega (arith, a .most)) (a .there));
-      rising = subst (λ (l : List ℕ). Rising 1 (map n l)) is (rising-joined n q g (o .sorted) q 0 1 (omega arith) (omega arith));
-      most = λ r i. let a = among g 0 q r (rw is i) in omega (arith, a .most, o .sorted (a .group) r (omega (arith, a .most)) (a .there));
-      lightEnd = λ k h. o .lightEnd k h ∙ ap (headOr kind.none) (same k h);
-      heavyEnd = λ k h. o .heavyEnd k h ∙ ap (lastOr kind.none) (same k h);
-      each = each;
-      chain = spare .chain;
-      idle = λ r i f h. spare .zeros r i f h (λ e. omega arith);
-    }
+    -- with the count m
+    module _ (m : ℕ) (hm : m ≡ suc j) where
+      abbrev rows′ : List ℕ
+      rows′ = place (at n r m) r (without r rows)
 
-module _ {q : ℕ} {R : Regions} {rows : List ℕ} {n : ℕ → ℕ} {free : List ℕ} (o : Ordered q R rows n free) where
-  in-order : joined (groups n rows) 0 q ≡ rows
-  in-order = joined-groups n q 1 rows (omega arith) (o .rising) (o .most)
+      placed : Grouped q (putIn r m e (takeOut r R)) (at n r m) (but (u .others) j (r ∷ u .others j))
+      placed = placed-grouped q hq (takeOut r R) n (u .others) (u .taken) r j hj m e he hm (u .row) (u .gone)
 
-  to-groups : Grouped q R n (groups n rows)
-  to-groups =
-      record {
-        linked = rw in-order (o .linked);
-        counted = λ k x h i. let w = group-in n (suc k) x rows i in o .counted x (w .0) ∙ w .1;
-        sorted = λ k x h i. group-in n (suc k) x rows i .1;
-        lightEnd = o .lightEnd;
-        heavyEnd = o .heavyEnd;
-      }
-
-  spared : Spared R free
-  spared = record { chain = o .chain; zeros = λ r i f h e. o .idle r i f h }
-
--- as many distinct rows out of all are all of them
-once-so : {q : ℕ} {xs : List ℕ} (ys : List ℕ) → Once q xs → Distinct ys → Within ys xs → length ys ≡ length xs → Once q ys
-once-so {q} {xs} ys o d w e =
-    record { distinct = d; below = below-in q ys (λ x i. in-below q xs (o .below) x (w x i)); long = e ∙ o .long }
-
-module _ {q : ℕ} {R : Regions} {rows : List ℕ} {n : ℕ → ℕ} {free : List ℕ} (hq : q ≤ kind.largest) (o : Ordered q R rows n free) where
-  -- a free row is not in the list
-  aside : (x : ℕ) → In x free → NotIn x (kind.none ∷ rows)
-  aside x i = (λ e. omega (arith, in-below q (rows ++ free) (o .each .below) x (in-right x rows free i)), apart-right x rows free (o .each .distinct) i)
-
-  -- r is one of the clients: its group, and the order without it
-  module _ (r : ℕ) (there : In r rows) where
-    abbrev g : ℕ → List ℕ
-    g = groups n rows
-
-    mine : Among g 0 q r
-    mine = among g 0 q r (rw (in-order o) there)
-
-    abbrev i : ℕ
-    i = mine .group
-
-    abbrev others : ℕ → List ℕ
-    others = but g i (without r (g i))
-
-    within : i < q
-    within = omega (arith, mine .most)
-
-    count-is : (R .client r kind.count ≡ suc i) × (n r ≡ suc i)
-    count-is = (to-groups o .counted i r within (mine .there), to-groups o .sorted i r within (mine .there))
-
-    row : r < q
-    row = in-below q rows (o .linked .below) r there
-
-    taken : Grouped q (takeOut r R) n others
-    taken = taken-grouped q hq R n g (to-groups o) r i within (mine .there)
-
-    rest : joined others 0 q ≡ without r rows
-    rest = sym (without-joined q g r i within (split-at r (g i) (mine .there)) (rw (in-order o) (o .linked .distinct))) ∙ ap (without r) (in-order o)
-
-    out : NotIn r (joined others 0 q)
-    out = rw rest (gone r rows there (o .linked .distinct))
-
-    -- e and the row after it, where r is put in again in group j
-    next-links : (j e : ℕ) → j < q → e ≡ lastOr kind.none (joined others 0 j) → Link q e × Link q (after e (takeOut r R))
-    next-links j e hj he =
-        let b : Below q (joined others 0 j ++ (others j ++ above others j q)) = rw (parts others j q hj) at (taken .linked .below) in (
-          rw he (last-link q (joined others 0 j) (below-left q (joined others 0 j) _ b)),
-          rw (placed-after q hq (takeOut r R) n others taken r j hj 0 e he) (head-link q (others j ++ above others j q) (below-right q (joined others 0 j) _ b)),
-        )
-
-    -- r put in again, in group j, with the count m
-    module _ (m j e : ℕ) (hm : m ≡ suc j) (hj : j < q) (he : e ≡ lastOr kind.none (joined others 0 j)) where
-      placed : Grouped q (putIn r m e (takeOut r R)) (at n r m) (but others j (r ∷ others j))
-      placed = placed-grouped q hq (takeOut r R) n others taken r j hj m e he hm row out
-
-      is-placed : joined (but others j (r ∷ others j)) 0 q ≡ place (at n r m) r (without r rows)
+      is-placed : joined (but (u .others) j (r ∷ u .others j)) 0 q ≡ rows′
       is-placed =
-          sym (place-joined (at n r m) q others (counted-at n q others r m out (taken .sorted)) r j hj (at-same n r m ∙ hm)) ∙ ap (place (at n r m) r) rest
+          sym (place-joined (at n r m) q (u .others) (counted-at n q (u .others) r m (u .gone) (u .taken .sorted)) r j hj (at-same n r m ∙ hm))
+          ∙ ap (place (at n r m) r) (u .rest)
 
-      still : Within (place (at n r m) r (without r rows)) rows
+      still : Within rows′ rows
       still x k = ⊎-elim (λ e. rw e there) (λ z. in-without r x rows z) (place-in (at n r m) r x (without r rows) k)
 
-      as-long : length (place (at n r m) r (without r rows)) ≡ length rows
+      as-long : length rows′ ≡ length rows
       as-long = place-length (at n r m) r (without r rows) ∙ sym (without-length r rows there)
 
       idle : (x f : ℕ) → In x free → R .client x f ≡ putIn r m e (takeOut r R) .client x f
       idle x f k =
-          let a = aside x k in
+          let a = free-aside hq o x k in
           sym
-          (placed-aside q hq (takeOut r R) n others taken r j hj m e he x f (λ z. not-both x rows (rw z there) (a .1)) (rw rest (a .0, notin-without r x rows (a .1)))
-          ∙ taken-aside q hq R n g (to-groups o) r i within (mine .there) x f (rw (in-order o) a))
+          (placed-aside q hq (takeOut r R) n (u .others) (u .taken) r j hj m e he x f (λ z. not-both x rows (rw z there) (a .1)) (rw (u .rest) (a .0, notin-without r x rows (a .1)))
+          ∙ u .aside x f a)
 
-      moved : Ordered q (putIn r m e (takeOut r R)) (place (at n r m) r (without r rows)) (at n r m) free
+      moved : Ordered q (putIn r m e (takeOut r R)) rows′ (at n r m) free
       moved =
-          let rows′ = place (at n r m) r (without r rows) in
           let d : Distinct rows′ = rw is-placed at (placed .linked .distinct) in
           from-groups rows′ placed is-placed (o .number ∙ sym as-long)
           (once-so (rows′ ++ free) (o .each)
-          (distinct-both rows′ free d (distinct-right rows free (o .each .distinct)) (λ x a b. not-both x rows (still x a) (aside x b .1)))
+          (distinct-both rows′ free d (distinct-right rows free (o .each .distinct)) (λ x a b. not-both x rows (still x a) (free-aside hq o x b .1)))
           (λ x k. ⊎-elim (λ a. in-left x rows free (still x a)) (λ b. in-right x rows free b) (in-either x rows′ free k))
           (simp length-append (ap (λ (k : ℕ). k + length free) as-long)))
-          (spare-so (putIn r m e (takeOut r R) .client) (λ x f k. idle x f k) (spared o))
+          (spare-so (putIn r m e (takeOut r R) .client) idle (spared o))
 
-    -- what the code asks of r
-    pub stands : Standing q r R
-    stands =
-        let near = neighbour-links (o .linked) r there in
-        record { row = row; least = omega (arith, count-is .0); most = omega (arith, count-is .0, within); lighter = near .0; heavier = near .1 }
+  -- what the code asks of r
+  pub stands : Standing q r R
+  stands =
+      let near = neighbour-links (o .linked) r there in
+      record { row = u .row; least = omega (arith, u .counted); most = omega (arith, u .counted, u .within); lighter = near .0; heavier = near .1 }
 
-    -- one more
-    module _ (h : n r < q) where
-      up : suc i < q
-      up = omega (arith, count-is .1)
+  -- one more
+  module _ (h : n r < q) where
+    up : suc (u .group) < q
+    up = omega (arith, u .sorted)
 
-      e-up : raiseAfter r R ≡ lastOr kind.none (joined others 0 (suc i))
-      e-up = raise-after q hq R n g (to-groups o) r i within (mine .there)
+    pub raise-links : Link q (raiseAfter r R) × Link q (after (raiseAfter r R) (takeOut r R))
+    raise-links = next-links (suc (u .group)) (raiseAfter r R) up (u .raise)
 
-      pub raise-links : Link q (raiseAfter r R) × Link q (after (raiseAfter r R) (takeOut r R))
-      raise-links = next-links (suc i) (raiseAfter r R) up e-up
+    pub raised-ordered : Ordered q (raised r R) (place (at n r (n r + 1)) r (without r rows)) (at n r (n r + 1)) free
+    raised-ordered =
+        subst (λ (k : ℕ). Ordered q (raised r R) (place (at n r (k + 1)) r (without r rows)) (at n r (k + 1)) free) (o .counted r there)
+        (moved (suc (u .group)) (raiseAfter r R) up (u .raise) (R .client r kind.count + 1) (omega (arith, u .counted)))
 
-      pub raised-ordered : Ordered q (raised r R) (place (at n r (n r + 1)) r (without r rows)) (at n r (n r + 1)) free
-      raised-ordered =
-          subst (λ (k : ℕ). Ordered q (raised r R) (place (at n r (k + 1)) r (without r rows)) (at n r (k + 1)) free) (o .counted r there)
-          (moved (R .client r kind.count + 1) (suc i) (raiseAfter r R) (omega (arith, count-is .0)) up e-up)
+  -- one less
+  module _ (h : 2 ≤ n r) where
+    lower : suc (u .group - 1) ≡ u .group
+    lower = omega (arith, u .sorted)
 
-    -- one less
-    module _ (h : 2 ≤ n r) where
-      below : suc (i - 1) ≡ i
-      below = omega (arith, count-is .1)
+    down : u .group - 1 < q
+    down = omega (arith, u .within)
 
-      down : i - 1 < q
-      down = omega (arith, within)
+    pub lower-row : lowerBefore r R < q
+    lower-row = u .lowerRow (u .group - 1) lower
 
-      e-down : lowerAfter r R ≡ lastOr kind.none (joined others 0 (i - 1))
-      e-down = lower-after q hq R n g (to-groups o) r i within (mine .there) (i - 1) below
+    pub lower-links : Link q (lowerAfter r R) × Link q (after (lowerAfter r R) (takeOut r R))
+    lower-links = next-links (u .group - 1) (lowerAfter r R) down (u .lower (u .group - 1) lower)
 
-      pub lower-links : Link q (lowerAfter r R) × Link q (after (lowerAfter r R) (takeOut r R))
-      lower-links = next-links (i - 1) (lowerAfter r R) down e-down
+    pub lowered-ordered : Ordered q (lowered r R) (place (at n r (n r - 1)) r (without r rows)) (at n r (n r - 1)) free
+    lowered-ordered =
+        subst (λ (k : ℕ). Ordered q (lowered r R) (place (at n r (k - 1)) r (without r rows)) (at n r (k - 1)) free) (o .counted r there)
+        (moved (u .group - 1) (lowerAfter r R) down (u .lower (u .group - 1) lower) (R .client r kind.count - 1) (omega (arith, u .counted, lower)))
 
-      pub lower-row : lowerBefore r R < q
-      lower-row = grouped.lower-row q hq R n g (to-groups o) r i within (mine .there) (i - 1) below
+-- a client comes
 
-      pub lowered-ordered : Ordered q (lowered r R) (place (at n r (n r - 1)) r (without r rows)) (at n r (n r - 1)) free
-      lowered-ordered =
-          subst (λ (k : ℕ). Ordered q (lowered r R) (place (at n r (k - 1)) r (without r rows)) (at n r (k - 1)) free) (o .counted r there)
-          (moved (R .client r kind.count - 1) (i - 1) (lowerAfter r R) (omega (arith, count-is .0, below)) down e-down)
+module _ {q : ℕ} {R : Regions} {rows : List ℕ} {n : ℕ → ℕ} {first : ℕ} {free : List ℕ} (hq : q ≤ kind.largest) (o : Ordered q R rows n (first ∷ free)) (id : ℕ) where
+  abbrev r : ℕ
+  r = R .header kind.freeClientAt
+
+  abbrev before : Regions
+  before = enterRow q r (takeRow id R)
+
+  is-first : r ≡ first
+  is-first = o .chain .0
+
+  rows-first : NotIn r rows × NotIn r free
+  rows-first =
+      let d = o .each .distinct in
+      rw is-first (meets first rows free d, distinct-right rows (first ∷ free) d .0)
+
+  new-row : r < q
+  new-row = rw is-first (in-below q (rows ++ first ∷ free) (o .each .below) first (in-right first rows (first ∷ free) (inl refl)))
+
+  seen : Grouped q before n (groups n rows)
+  seen = let G = to-groups o in record { linked = G .linked; counted = G .counted; sorted = G .sorted; lightEnd = G .lightEnd; heavyEnd = G .heavyEnd }
+
+  entered : Grouped q (admitted q id R) (at n r 1) (but (groups n rows) 0 (r ∷ groups n rows 0))
+  entered =
+      let G = placed-grouped q hq before n (groups n rows) seen r 0 (omega (arith, new-row)) 1 kind.none refl refl new-row (rw (in-order o) (rows-first .0)) in
+      record { linked = G .linked; counted = G .counted; sorted = G .sorted; lightEnd = G .lightEnd; heavyEnd = G .heavyEnd }
+
+  is-entered : joined (but (groups n rows) 0 (r ∷ groups n rows 0)) 0 q ≡ r ∷ rows
+  is-entered =
+      parts-but (groups n rows) 0 q (r ∷ groups n rows 0) (omega (arith, new-row))
+      ∙ ap (λ (l : List ℕ). r ∷ l) (sym (parts (groups n rows) 0 q (omega (arith, new-row))) ∙ in-order o)
+
+  new-each : Once q ((r ∷ rows) ++ free)
+  new-each =
+      once-so ((r ∷ rows) ++ free) (o .each)
+      (notin-both r rows free (rows-first .0) (rows-first .1), distinct-drop first rows free (o .each .distinct))
+      (λ x i. ⊎-elim (λ e. in-right x rows (first ∷ free) (inl (e ∙ is-first)))
+      (λ j. ⊎-elim (λ k. in-left x rows (first ∷ free) k) (λ k. in-right x rows (first ∷ free) (inr k)) (in-either x rows free j)) i)
+      (simp length-append (omega arith))
+
+  new-spared : Spared (admitted q id R) free
+  new-spared =
+      spare-so (admitted q id R .client)
+      (λ x f i.
+      let a = free-aside hq o x (inr i) in
+      let n′ : x ≡ r → ⊥ = λ e. other r x free (rows-first .1) i (sym e) in
+      sym (placed-aside q hq before n (groups n rows) seen r 0 (omega (arith, new-row)) 1 kind.none refl x f n′ (rw (in-order o) a) ∙ simp (ne-eqb x r n′, cond-same)))
+      (spare-take (spared o) .1)
+
+  come : Ordered q (admitted q id R) (r ∷ rows) (at n r 1) free
+  come = from-groups (r ∷ rows) entered is-entered (rw (o .number) (add-one (length rows))) new-each new-spared
+
+pub admitted-ordered : {q : ℕ} {R : Regions} {rows : List ℕ} {n : ℕ → ℕ} {free : List ℕ} → q ≤ kind.largest → Ordered q R rows n free → 1 ≤ length free → (id : ℕ)
+    → Ordered q (admitted q id R) (headOr kind.none free ∷ rows) (at n (headOr kind.none free) 1) (rest free)
+admitted-ordered {free = []} hq o some id = absurd (not-suc-le-zero some)
+admitted-ordered {q} {R} {rows} {n} {free = first ∷ free} hq o some id =
+    subst (λ (r : ℕ). Ordered q (admitted q id R) (r ∷ rows) (at n r 1) free) (is-first hq o id) (come hq o id)
+
+-- a client goes
+
+freed-other : (r x f : ℕ) (S : Regions) → (x ≡ r → ⊥) → freeRow r S .client x f ≡ S .client x f
+freed-other r x f S n = simp (ne-eqb x r n, cond-same)
+
+module _ {q : ℕ} {R : Regions} {rows : List ℕ} {n : ℕ → ℕ} {free : List ℕ} (hq : q ≤ kind.largest) (o : Ordered q R rows n free) (r : ℕ) (there : In r rows) where
+  abbrev left : Regions
+  left = leaveRow q r R
+
+  out-of-bucket : Ordered q left rows n free
+  out-of-bucket =
+      ordered-so
+      (record { number = refl; lightest = refl; heaviest = refl; free = refl; id = λ x. refl; count = λ x. refl; lighter = λ x. refl; heavier = λ x. refl; ends = refl }) o
+
+  v : Out q left rows n r
+  v = taken-out hq out-of-bucket r there
+
+  gone-grouped : Grouped q (dismissed q r R) n (v .others)
+  gone-grouped =
+      let G = v .taken in
+      record {
+        linked = elsewhere r 0 r _ (v .gone) (v .gone) (G .linked);
+        counted = counted-at (λ x. left .client x kind.count) q (v .others) r 0 (v .gone) (G .counted);
+        sorted = G .sorted;
+        lightEnd = G .lightEnd;
+        heavyEnd = G .heavyEnd;
+      }
+
+  less : length rows ≡ suc (length (without r rows))
+  less = without-length r rows there
+
+  gone-each : Once q (without r rows ++ r ∷ free)
+  gone-each =
+      let d = o .each .distinct in
+      let s = split-at r rows there in
+      once-so (without r rows ++ r ∷ free) (o .each)
+      (distinct-put r (without r rows) free
+      (notin-both r (without r rows) free (gone r rows there (o .linked .distinct)) (notin r free (λ i. not-both r rows there (apart-right r rows free d i))))
+      (distinct-both (without r rows) free (without-distinct r rows (o .linked .distinct)) (distinct-right rows free d) (λ x i j. not-both x rows (in-without r x rows i) (apart-right x rows free d j))))
+      (λ x i. ⊎-elim (λ j. in-left x rows free (in-without r x rows j)) (λ j. ⊎-elim (λ e. rw e (in-left r rows free there)) (λ k. in-right x rows free k) j) (in-either x (without r rows) (r ∷ free) i))
+      (simp length-append (omega (arith, less)))
+
+  gone-idle : (x f : ℕ) → In x free → left .client x f ≡ dismissed q r R .client x f
+  gone-idle x f i =
+      let a = free-aside hq o x i in
+      let n′ : x ≡ r → ⊥ = λ e. not-both x rows (rw e there) (a .1) in
+      sym (freed-other r x f (takeOut r left) n′ ∙ v .aside x f a)
+
+  gone-spared : Spared (dismissed q r R) (r ∷ free)
+  gone-spared =
+      let S = spare-so (dismissed q r R .client) gone-idle (spared out-of-bucket) in
+      record {
+        chain = (refl, rw (eq-eqb r r refl) (S .chain));
+        zeros = λ x i f h m.
+            ⊎-elim (λ e. rw e (each kind.heavier (λ k. dismissed q r R .client r k ≡ 0) (rw (eq-eqb r r refl), (rw (eq-eqb r r refl), (rw (eq-eqb r r refl), tt))) f h))
+            (λ j. S .zeros x j f h m) i;
+      }
+
+  pub dismissed-ordered : Ordered q (dismissed q r R) (without r rows) n (r ∷ free)
+  dismissed-ordered = from-groups (without r rows) gone-grouped (v .rest) (omega (arith, o .number, less)) gone-each gone-spared

@@ -3,8 +3,10 @@ use mathlib.Core.Bool.{cond}
 use Prim.Native.Nat.{ℕ, _+_, _-_}
 use lib.Dec.{eqb}
 use Rattle.table.specs.Kind as kind
-use Rattle.table.specs.Regions.{Regions, setClient, setCount}
+use Rattle.table.specs.Regions.{Regions, setHeader, setClient, setCount}
 use Rattle.links.specs.Strands.{theOrder, unlinkIn, insertIn}
+use Rattle.links.specs.Pools.{freeClients, takeFrom}
+use Rattle.lookup.specs.Book.{enterRow, leaveRow}
 
 -- an end of a group when r leaves it: where r stands there, its neighbour inside, or none where it stands at the other end too
 abbrev pub endWithout : ℕ → ℕ → ℕ → ℕ → ℕ
@@ -53,3 +55,29 @@ lowerAfter r R = R .client (lowerBefore r R) kind.lighter
 
 abbrev pub lowered : ℕ → Regions → Regions
 lowered r R = putIn r (R .client r kind.count - 1) (lowerAfter r R) (takeOut r R)
+
+-- one client more, and one less
+abbrev pub oneMore : Regions → Regions
+oneMore R = setHeader kind.clientsAt (R .header kind.clientsAt + 1) R
+
+abbrev pub oneLess : Regions → Regions
+oneLess R = setHeader kind.clientsAt (R .header kind.clientsAt - 1) R
+
+-- the first free row is taken, and holds an id
+abbrev pub takeRow : ℕ → Regions → Regions
+takeRow id R = setClient (R .header kind.freeClientAt) kind.id id (takeFrom freeClients R)
+
+-- a client comes: in the first free row, in front of its bucket, lightest of all
+abbrev pub admitted : ℕ → ℕ → Regions → Regions
+admitted q id R = oneMore (putIn (R .header kind.freeClientAt) 1 kind.none (enterRow q (R .header kind.freeClientAt) (takeRow id R)))
+
+-- row r with zeros in the words of this layer, and the first free one
+abbrev pub clearRow : ℕ → Regions → Regions
+clearRow r R = setClient r kind.lighter 0 (setClient r kind.count 0 (setClient r kind.id 0 R))
+
+abbrev pub freeRow : ℕ → Regions → Regions
+freeRow r R = setHeader kind.freeClientAt r (setClient r kind.heavier (R .header kind.freeClientAt) (clearRow r R))
+
+-- a client goes: out of its bucket, its group and the list
+abbrev pub dismissed : ℕ → ℕ → Regions → Regions
+dismissed q r R = oneLess (freeRow r (takeOut r (leaveRow q r R)))
