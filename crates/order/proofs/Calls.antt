@@ -1,5 +1,5 @@
 -- One law for each function: what it reads is what the regions hold, and its writes are the step.
-use mathlib.Core.List.{List}
+use mathlib.Core.List.{List, _∷_}
 use mathlib.Core.Bool.{cond}
 use mathlib.Core.Path.{_≡_, refl, sym, ap, ap₂, _∙_, subst}
 use Prim.Native.Nat.{ℕ, _+_, _-_, _≤_, _<_}
@@ -8,13 +8,20 @@ use lib.Dec.{eqb, lit<}
 use lib.ListN.{getD}
 use borrow.Author.Tests.{eq-eqb, ne-eqb}
 use Rattle.table.specs.Kind as kind
-use Rattle.table.specs.Regions.{Regions, words, clientWord, countWord, Writes, setClient, setCount}
-use Rattle.table.proofs.Write.{then, so-read, read-header, read-client, read-count}
+use Rattle.table.specs.Regions.{Regions, words, clientWord, countWord, Sized, Writes, setHeader, setClient, setCount}
+use Rattle.table.proofs.Draw.{at-other}
+use Rattle.table.proofs.Write.{then, so-read, sized-after, read-header, read-client, read-count}
+use Rattle.rules.specs.Rows.{In}
 use Rattle.rules.specs.Linked.{Link}
+use Rattle.rules.specs.Spread.{bucket}
+use Rattle.rules.proofs.Rows.{other, gone, without-length}
 use Rattle.links.specs.Strands.{theOrder, unlinkIn, insertIn}
-use Rattle.order.specs.Moves.{endWithout, orElse, leaveGroup, enterGroup, takeOut, after, putIn, raiseAfter, raised, lowerBefore, lowerAfter, lowered}
-use Rattle.order.specs.Asks.{Finds, Drawn, Standing, Client}
-use Rattle.order.proofs.Ordered.{stands, raise-links, lower-links, lower-row}
+use Rattle.links.proofs.Lists.{end-links}
+use Rattle.lookup.specs.Book.{idOf, enterRow, leaveRow, put}
+use Rattle.lookup.specs.View.{Keeps, kept-below, word-after, kept-same, kept-id, kept-enter, kept-leave}
+use Rattle.order.specs.Moves.{endWithout, orElse, leaveGroup, enterGroup, takeOut, after, putIn, raiseAfter, raised, lowerBefore, lowerAfter, lowered, oneMore, oneLess, takeRow, admitted, clearRow, freeRow, dismissed}
+use Rattle.order.specs.Asks.{Finds, Drawn, Standing, Client, Vacant, Enters, Leaves}
+use Rattle.order.proofs.Ordered.{stands, raise-links, lower-links, lower-row, first-free, room-for}
 
 module _ {q : ℕ} {t : List ℕ} where
   -- groups
@@ -164,3 +171,88 @@ module _ {q : ℕ} {t : List ℕ} where
 
       pub lower-writes : {a b : List ℕ} {e : ℕ} → Finds q t (lowerAfter r) e → Writes q t a (takeOut r) 4 → Writes q a b (putIn r (x - 1) e) 7 → Writes q t b (lowered r) 11
       lower-writes g w y = move-writes hq D w (lowerAfter r) g (λ k. k - 1) hx y
+
+  -- a client comes
+
+  pub number-writes : (h : ℕ → ℕ) {a : List ℕ} {x : ℕ} → x ≡ getD t kind.clientsAt 0 → Writes q t a (setHeader kind.clientsAt (h x)) 1
+      → Writes q t a (λ R. setHeader kind.clientsAt (h (R .header kind.clientsAt)) R) 1
+  number-writes h e w = so-read w (λ R d. ap (λ (k : ℕ). setHeader kind.clientsAt (h k) R) (e ∙ read-header q R kind.clientsAt d (lit< tt)))
+
+  pub first-row : q ≤ kind.largest → Drawn q t (Vacant q) → getD t kind.freeClientAt 0 < q
+  first-row hq D = rw (read-header q (D .regs) kind.freeClientAt (D .drawn) (lit< tt)) (first-free hq (D .holds .ordered) (D .holds .some))
+
+  pub new-row : {r : ℕ} → q ≤ kind.largest → Drawn q t (Vacant q) → r ≡ getD t kind.freeClientAt 0 → r < q
+  new-row hq D e = rw e (first-row hq D)
+
+  module _ {a b : List ℕ} (id r : ℕ) (D : Drawn q t (Vacant q)) (x : Writes q t a (takeRow r id) 2) (y : Writes q a b (enterRow q r) 2) where
+    pub lightest-link : Drawn q b (λ R. Link q (after kind.none R))
+    lightest-link =
+        record {
+          regs = enterRow q r (takeRow r id (D .regs));
+          drawn = then x y .drawn (D .regs) (D .drawn);
+          holds = end-links (D .holds .ordered .linked) .0;
+        }
+
+    module _ {c : List ℕ} (z : Writes q b c (putIn r 1 kind.none) 7) where
+      pub room-after : getD c kind.clientsAt 0 < q
+      room-after =
+          let S = enterRow q r (takeRow r id (D .regs)) in
+          rw (read-header q (putIn r 1 kind.none S) kind.clientsAt (then (then x y) z .drawn (D .regs) (D .drawn)) (lit< tt)) (room-for (D .holds .ordered) (D .holds .some))
+
+      module _ {d : List ℕ} (v : Writes q c d oneMore 1) where
+        pub admit-writes : r ≡ getD t kind.freeClientAt 0 → Writes q t d (admitted q id) 12
+        admit-writes e =
+            so-read (then (then (then x y) z) v)
+            (λ R f. ap (λ (k : ℕ). oneMore (putIn k 1 kind.none (enterRow q k (takeRow k id R)))) (e ∙ read-header q R kind.freeClientAt f (lit< tt)))
+
+        -- by the lookup's laws, one after the other
+        pub enters : Sized q t → r < q → Enters q t d id r
+        enters sz hr =
+            let sa = sized-after sz x in
+            let sb = sized-after sa y in
+            let mine : idOf q a r ≡ id = word-after sz x r kind.id hr (lit< tt) ∙ rw (eq-eqb r r refl) in
+            record {
+              keeps = λ cs C k n own.
+                  let other-id : (s : ℕ) → In s cs → idOf q a s ≡ idOf q t s =
+                  λ s i. word-after sz x s kind.id (kept-below k s i) (lit< tt) ∙ at-other (idOf q t) r id s (λ e. other r s cs n i (sym e)) in
+                  let entered = kept-enter r sa (kept-id sz x k r id n (λ R. refl)) y hr n (λ s i e. own s i (sym (other-id s i) ∙ e ∙ mine)) in
+                  subst (λ (m : ℕ). Keeps q d (r ∷ cs) (put (bucket q m) r C)) mine (kept-same (sized-after sb z) v (kept-same sb z entered (λ R. refl)) (λ R. refl));
+            }
+
+  -- a client goes
+
+  pub free-writes : {a b c : List ℕ} (r : ℕ) {x : ℕ} → x ≡ getD t kind.freeClientAt 0
+      → Writes q t a (clearRow r) 3 → Writes q a b (setClient r kind.heavier x) 1 → Writes q b c (setHeader kind.freeClientAt r) 1 → Writes q t c (freeRow r) 5
+  free-writes r e w y z =
+      so-read (then (then w y) z)
+      (λ R d. ap (λ (k : ℕ). setHeader kind.freeClientAt r (setClient r kind.heavier k (clearRow r R))) (e ∙ read-header q R kind.freeClientAt d (lit< tt)))
+
+  module _ {a : List ℕ} {r : ℕ} {F : ℕ → Type 0} (hq : q ≤ kind.largest) (D : Drawn q t (Client q r F)) (x : Writes q t a (leaveRow q r) 2) where
+    pub stands-after : Drawn q a (Standing q r)
+    stands-after =
+        let S = client-stands hq D in
+        record {
+          regs = leaveRow q r (S .regs);
+          drawn = x .drawn (S .regs) (S .drawn);
+          holds = record { row = S .holds .row; least = S .holds .least; most = S .holds .most; lighter = S .holds .lighter; heavier = S .holds .heavier };
+        }
+
+    module _ {b c : List ℕ} (y : Writes q a b (takeOut r) 4) (z : Writes q b c (freeRow r) 5) where
+      pub somebody : 1 ≤ getD c kind.clientsAt 0
+      somebody =
+          let S = takeOut r (leaveRow q r (D .regs)) in
+          rw (read-header q (freeRow r S) kind.clientsAt (then (then x y) z .drawn (D .regs) (D .drawn)) (lit< tt), D .holds .ordered .number)
+          (omega (arith, without-length r (D .holds .rows) (D .holds .there)))
+
+      module _ {d : List ℕ} (v : Writes q c d oneLess 1) where
+        pub dismiss-writes : Writes q t d (dismissed q r) 12
+        dismiss-writes = then (then (then x y) z) v
+
+        pub leaves : Sized q t → Leaves q t d r
+        leaves sz =
+            let sa = sized-after sz x in
+            let sb = sized-after sa y in
+            record {
+              keeps = λ cs C k i e.
+                  kept-same (sized-after sb z) v (kept-id sb z (kept-same sa y (kept-leave r sz k x i e) (λ R. refl)) r 0 (gone r cs i e) (λ R. refl)) (λ R. refl);
+            }

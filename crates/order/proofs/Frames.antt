@@ -82,7 +82,7 @@ raised-book r R = refl
 pub lowered-book : (r : ℕ) (R : Regions) → book (lowered r R) ≡ book R
 lowered-book r R = refl
 
-pub admitted-book : (q id : ℕ) (R : Regions) → book (admitted q id R) ≡ book (enterRow q (R .header kind.freeClientAt) (takeRow id R))
+pub admitted-book : (q id : ℕ) (R : Regions) → book (admitted q id R) ≡ book (enterRow q (R .header kind.freeClientAt) (takeRow (R .header kind.freeClientAt) id R))
 admitted-book q id R = refl
 
 pub dismissed-book : (q r : ℕ) (R : Regions) → book (dismissed q r R) ≡ withId r 0 (book (leaveRow q r R))

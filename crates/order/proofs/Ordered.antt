@@ -127,7 +127,7 @@ module _ {q : ℕ} {R : Regions} {rows : List ℕ} {n : ℕ → ℕ} {first : �
   r = R .header kind.freeClientAt
 
   abbrev before : Regions
-  before = enterRow q r (takeRow id R)
+  before = enterRow q r (takeRow r id R)
 
   is-first : r ≡ first
   is-first = o .chain .0
@@ -172,6 +172,15 @@ module _ {q : ℕ} {R : Regions} {rows : List ℕ} {n : ℕ → ℕ} {first : �
 
   come : Ordered q (admitted q id R) (r ∷ rows) (at n r 1) free
   come = from-groups (r ∷ rows) entered is-entered (rw (o .number) (add-one (length rows))) new-each new-spared
+
+module _ {q : ℕ} {R : Regions} {rows : List ℕ} {n : ℕ → ℕ} where
+  -- what the code asks: the first free row is a row, and there is room for one more
+  pub first-free : {free : List ℕ} → q ≤ kind.largest → Ordered q R rows n free → 1 ≤ length free → R .header kind.freeClientAt < q
+  first-free {free = []} hq o some = absurd (not-suc-le-zero some)
+  first-free {free = first ∷ free} hq o some = new-row hq o 0
+
+  pub room-for : {free : List ℕ} → Ordered q R rows n free → 1 ≤ length free → R .header kind.clientsAt < q
+  room-for {free = free} o some = omega (arith, o .number, o .each .long, length-append rows free)
 
 pub admitted-ordered : {q : ℕ} {R : Regions} {rows : List ℕ} {n : ℕ → ℕ} {free : List ℕ} → q ≤ kind.largest → Ordered q R rows n free → 1 ≤ length free → (id : ℕ)
     → Ordered q (admitted q id R) (headOr kind.none free ∷ rows) (at n (headOr kind.none free) 1) (rest free)

@@ -63,13 +63,14 @@ oneMore R = setHeader kind.clientsAt (R .header kind.clientsAt + 1) R
 abbrev pub oneLess : Regions → Regions
 oneLess R = setHeader kind.clientsAt (R .header kind.clientsAt - 1) R
 
--- the first free row is taken, and holds an id
-abbrev pub takeRow : ℕ → Regions → Regions
-takeRow id R = setClient (R .header kind.freeClientAt) kind.id id (takeFrom freeClients R)
+-- the first free row, r, is taken, and holds an id
+abbrev pub takeRow : ℕ → ℕ → Regions → Regions
+takeRow r id R = setClient r kind.id id (takeFrom freeClients R)
 
 -- a client comes: in the first free row, in front of its bucket, lightest of all
 abbrev pub admitted : ℕ → ℕ → Regions → Regions
-admitted q id R = oneMore (putIn (R .header kind.freeClientAt) 1 kind.none (enterRow q (R .header kind.freeClientAt) (takeRow id R)))
+admitted q id R =
+    oneMore (putIn (R .header kind.freeClientAt) 1 kind.none (enterRow q (R .header kind.freeClientAt) (takeRow (R .header kind.freeClientAt) id R)))
 
 -- row r with zeros in the words of this layer, and the first free one
 abbrev pub clearRow : ℕ → Regions → Regions

@@ -2,11 +2,15 @@
 // The functions rest on a sound table: that the order is right (`Client`) and the table has its size (`Sized`).
 ghost use mathlib.Core.Path.{_≡_};
 ghost use Prim.Native.Nat.{_<_, _≤_};
+ghost use lib.ListN.{getD};
 ghost use Rattle.table.specs.Kind as kind;
 ghost use Rattle.table.specs.Regions.{Regions, Sized, Writes};
+ghost use Rattle.rules.specs.Rows.{In};
 ghost use Rattle.rules.specs.Linked.{Link};
-ghost use Rattle.order.specs.Moves.{endWithout, orElse, leaveGroup, enterGroup, takeOut, after as afterIn, putIn, raiseAfter, raised, lowerBefore, lowerAfter, lowered};
-ghost use Rattle.order.specs.Asks.{Finds, Drawn, Standing, Client};
+ghost use Rattle.rules.specs.Spread.{IsSpread};
+ghost use Rattle.lookup.specs.View.{Kept};
+ghost use Rattle.order.specs.Moves.{endWithout, orElse, leaveGroup, enterGroup, takeOut, after as afterIn, putIn, raiseAfter, raised, lowerBefore, lowerAfter, lowered, takeRow, oneMore, oneLess, admitted, clearRow, freeRow, dismissed};
+ghost use Rattle.order.specs.Asks.{Finds, Drawn, Standing, Client, Vacant, Enters, Leaves};
 use table::LinkedTable;
 
 // An end of group row k once r has left it; `inside` is r's link away from that end.
@@ -177,4 +181,97 @@ pub fn lower(t: &mut [u32], q: usize, r: u32)
     let e = lower_after(t, q, r);
     remove(t, q, r);
     put_in(t, q, r, c - 1, e);
+}
+
+// The first free row is taken, and holds the id.
+fn take_row(t: &mut [u32], q: usize, id: u32) -> u32
+    requires { ⌜ Sized q (now t) ⌝ }
+    requires { ⌜ getD (now t) kind.freeClientAt 0 < q ⌝ }
+    ensures { λ r. ⌜ r ≡ getD (now (t .entry)) kind.freeClientAt 0 ⌝ }
+    ensures { λ r. ⌜ Writes q (now (t .entry)) (now (t .exit)) (takeRow r id) 2 ⌝ }
+    ensures { λ _. ⌜ Sized q (now (t .exit)) ⌝ }
+{
+    let r = links::take_client(t, q);
+    table::set_client(t, q, r, LinkedTable::ID, id);
+    r
+}
+
+// One client more.
+fn one_more(t: &mut [u32], q: usize)
+    requires { ⌜ Sized q (now t) ⌝ }
+    requires { ⌜ getD (now t) kind.clientsAt 0 < q ⌝ }
+    ensures { λ _. ⌜ Writes q (now (t .entry)) (now (t .exit)) oneMore 1 ⌝ }
+    ensures { λ _. ⌜ Sized q (now (t .exit)) ⌝ }
+{
+    let n = table::header(t, q, LinkedTable::CLIENTS_AT);
+    table::set_header(t, q, LinkedTable::CLIENTS_AT, n + 1);
+}
+
+// One client less.
+fn one_less(t: &mut [u32], q: usize)
+    requires { ⌜ Sized q (now t) ⌝ }
+    requires { ⌜ 1 ≤ getD (now t) kind.clientsAt 0 ⌝ }
+    ensures { λ _. ⌜ Writes q (now (t .entry)) (now (t .exit)) oneLess 1 ⌝ }
+    ensures { λ _. ⌜ Sized q (now (t .exit)) ⌝ }
+{
+    let n = table::header(t, q, LinkedTable::CLIENTS_AT);
+    table::set_header(t, q, LinkedTable::CLIENTS_AT, n - 1);
+}
+
+// A client that is not there comes: in the first free row, in front of its bucket, lightest of all with the count 1. The row is the reply.
+pub fn admit(t: &mut [u32], q: usize, s: &[u32; 1024], id: u32) -> u32
+    requires { ⌜ Sized q (now t) ⌝ }
+    requires { ⌜ IsSpread (now s) ⌝ }
+    requires { ⌜ Drawn q (now t) (Vacant q) ⌝ }
+    ensures { λ r. ⌜ r ≡ getD (now (t .entry)) kind.freeClientAt 0 ⌝ }
+    ensures { λ _. ⌜ Writes q (now (t .entry)) (now (t .exit)) (admitted q id) 12 ⌝ }
+    ensures { λ _. ⌜ Sized q (now (t .exit)) ⌝ }
+    ensures { λ r. ⌜ Enters q (now (t .entry)) (now (t .exit)) id r ⌝ }
+{
+    let r = take_row(t, q, id);
+    lookup::enter(t, q, s, r);
+    put_in(t, q, r, 1, LinkedTable::NONE);
+    one_more(t, q);
+    r
+}
+
+// The words of this layer in row r become 0, but for the chain's.
+fn clear_row(t: &mut [u32], q: usize, r: u32)
+    requires { ⌜ Sized q (now t) ⌝ }
+    requires { ⌜ r < q ⌝ }
+    ensures { λ _. ⌜ Writes q (now (t .entry)) (now (t .exit)) (clearRow r) 3 ⌝ }
+    ensures { λ _. ⌜ Sized q (now (t .exit)) ⌝ }
+{
+    table::set_client(t, q, r, LinkedTable::ID, 0);
+    table::set_client(t, q, r, LinkedTable::WAITING, 0);
+    table::set_client(t, q, r, LinkedTable::LIGHTER, 0);
+}
+
+// Row r becomes the first free one. Its words of the other layers are 0 already: the lookup clears its own, and nobody's items are its items.
+fn free_row(t: &mut [u32], q: usize, r: u32)
+    requires { ⌜ Sized q (now t) ⌝ }
+    requires { ⌜ r < q ⌝ }
+    ensures { λ _. ⌜ Writes q (now (t .entry)) (now (t .exit)) (freeRow r) 5 ⌝ }
+    ensures { λ _. ⌜ Sized q (now (t .exit)) ⌝ }
+{
+    let first = table::header(t, q, LinkedTable::FREE_CLIENT_AT);
+    clear_row(t, q, r);
+    table::set_client(t, q, r, LinkedTable::HEAVIER, first);
+    table::set_header(t, q, LinkedTable::FREE_CLIENT_AT, r);
+}
+
+// A client without items goes: out of its bucket, its group and the list, and its row is the first free one.
+pub fn dismiss(t: &mut [u32], q: usize, s: &[u32; 1024], r: u32)
+    requires { ⌜ Sized q (now t) ⌝ }
+    requires { ⌜ IsSpread (now s) ⌝ }
+    requires { ⌜ Drawn q (now t) (Client q r (λ n. Unit {0})) ⌝ }
+    requires { ⌜ ((K : Kept q (now t)) × In r (K .clients)) ⌝ }
+    ensures { λ _. ⌜ Writes q (now (t .entry)) (now (t .exit)) (dismissed q r) 12 ⌝ }
+    ensures { λ _. ⌜ Sized q (now (t .exit)) ⌝ }
+    ensures { λ _. ⌜ Leaves q (now (t .entry)) (now (t .exit)) r ⌝ }
+{
+    lookup::leave(t, q, s, r);
+    remove(t, q, r);
+    free_row(t, q, r);
+    one_less(t, q);
 }
