@@ -121,6 +121,9 @@ module _ {q : ℕ} {t : List ℕ} where
     pub client-stands : Drawn q t (Standing q r)
     client-stands = record { regs = D .regs; drawn = D .drawn; holds = stands hq (D .holds .ordered) r (D .holds .there) }
 
+    pub client-row : r < q
+    client-row = client-stands .holds .row
+
     -- the count that is read is the client's
     pub count-is : {x : ℕ} → x ≡ clientWord t q r kind.count → x ≡ D .holds .count r
     count-is e = count-read client-stands e .is (D .regs) (D .drawn) ∙ D .holds .ordered .counted r (D .holds .there)

@@ -17,7 +17,11 @@ same-length : tie.Need-same-length
 same-length c = search needs
 
 returns : tie.Need-returns
-returns c = (then (then (c .before .before .before .before .before .before .before .before .before .before .set-client .ensures .0) (c .before .before .before .before .before .before .set-client2 .ensures .0)) (c .before .before .set-client3 .ensures .0), search needs)
+returns c =
+    let z = c .before .before in
+    let y = z .before .before .before .before in
+    let x = y .before .before .before .before in
+    (then (then (x .set-client .ensures .0) (y .set-client2 .ensures .0)) (z .set-client3 .ensures .0), search needs)
 
 pub clear-row-spec : {M : Type 1} → statement M
 clear-row-spec =

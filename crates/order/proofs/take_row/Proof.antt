@@ -14,7 +14,10 @@ same-length : tie.Need-same-length
 same-length c = search needs
 
 returns : tie.Need-returns
-returns c = (search needs, (then (c .before .before .before .before .before .before .take-client .ensures .1 .0) (c .before .before .set-client .ensures .0), search needs))
+returns c =
+    let y = c .before .before in
+    let x = y .before .before .before .before in
+    (search needs, (then (x .take-client .ensures .1 .0) (y .set-client .ensures .0), search needs))
 
 pub take-row-spec : {M : Type 1} → statement M
 take-row-spec = tie.close (tie.spec take-client-requires set-client-requires same-length returns)
