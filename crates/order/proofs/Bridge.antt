@@ -1,29 +1,20 @@
 -- The order of clients by the list and by its groups: from one to the other, and a client taken out.
-use mathlib.Core.List.{List, [], _∷_, _++_, map}
-use mathlib.Core.Bool.{Bool, true, false, cond}
-use mathlib.Core.Path.{_≡_, refl, sym, ap, ap₂, _∙_, subst}
-use mathlib.Core.Logic.{⊎-elim, inl, inr}
-use Prim.Native.Nat.{ℕ, zero, suc, _+_, _-_, _≤_, _<_}
+use mathlib.Core.List.{List, _∷_, _++_, map}
+use mathlib.Core.Path.{_≡_, sym, ap, _∙_, subst}
+use Prim.Native.Nat.{ℕ, suc, _≤_, _<_}
 use native.Mathlib.Omega.{arith}
-use lib.Dec.{eqb, leb}
-use lib.ListN.{length, length-append}
+use lib.ListN.{length}
 use Rattle.table.specs.Kind as kind
-use Rattle.table.specs.Regions.{Regions, at}
-use Rattle.table.proofs.Draw.{at-same}
-use Rattle.rules.specs.Rows.{headOr, lastOr, without, In, NotIn, Distinct, Below, Once, Rising}
-use Rattle.rules.specs.Linked.{Link, Linked, order}
-use Rattle.rules.specs.History.{place}
+use Rattle.table.specs.Regions.{Regions}
+use Rattle.rules.specs.Rows.{headOr, lastOr, without, In, NotIn, Distinct, Once, Rising}
+use Rattle.rules.specs.Linked.{Linked, order}
 use Rattle.rules.specs.Draw.{group}
 use Rattle.rules.specs.Parts.{Ordered}
-use Rattle.rules.proofs.Rows.{not-both, in-either, in-left, in-right, apart-right, distinct-right, distinct-both, in-below, below-in, below-left, below-right, in-without, notin-without, without-length, gone, Within, split-at}
-use Rattle.rules.proofs.Linked.{head-link, last-link}
+use Rattle.rules.proofs.Rows.{in-right, apart-right, in-below, below-in, gone, Within, split-at}
 use Rattle.links.specs.Pools.{Spare}
-use Rattle.links.proofs.Lists.{neighbour-links}
-use Rattle.links.proofs.Pools.{spare-so}
-use Rattle.order.specs.Moves.{takeOut, after, putIn, raiseAfter, raised, lowerBefore, lowerAfter, lowered}
-use Rattle.order.specs.Asks.{Standing}
-use Rattle.order.proofs.Joined.{joined, but, above, parts, Among, among}
-use Rattle.order.proofs.Sorted.{Counted, groups, group-in, in-group, joined-groups, group-joined, rising-joined, place-joined, counted-at, place-in, place-length, without-joined}
+use Rattle.order.specs.Moves.{takeOut, raiseAfter, lowerBefore, lowerAfter}
+use Rattle.order.proofs.Joined.{joined, but, among}
+use Rattle.order.proofs.Sorted.{groups, group-in, joined-groups, group-joined, rising-joined, without-joined}
 use Rattle.order.proofs.Grouped.{Grouped, taken-grouped, taken-aside, raise-after, lower-row, lower-after}
 
 -- the free rows, with zeros in this layer's words but the chain's

@@ -8,7 +8,7 @@ use lib.Dec.{eqb, lit<}
 use lib.ListN.{getD}
 use borrow.Author.Tests.{eq-eqb, ne-eqb}
 use Rattle.table.specs.Kind as kind
-use Rattle.table.specs.Regions.{Regions, words, clientWord, countWord, Sized, Writes, setHeader, setClient, setCount}
+use Rattle.table.specs.Regions.{Regions, clientWord, countWord, Sized, Writes, setHeader, setClient, setCount}
 use Rattle.table.proofs.Draw.{at-other}
 use Rattle.table.proofs.Write.{then, so-read, sized-after, read-header, read-client, read-count}
 use Rattle.rules.specs.Rows.{In}

@@ -1,35 +1,32 @@
 -- The order of clients, said by the list: raised and lowered, a client stands where the plain history's rule places it.
-use mathlib.Core.List.{List, [], _∷_, _++_, map}
-use mathlib.Core.Bool.{Bool, true, false, cond}
-use mathlib.Core.Path.{_≡_, refl, sym, ap, ap₂, _∙_, subst}
+use mathlib.Core.List.{List, [], _∷_, _++_}
+use mathlib.Core.Path.{_≡_, refl, sym, ap, _∙_, subst}
 use mathlib.Core.Logic.{⊎-elim, inl, inr}
-use Prim.Native.Nat.{ℕ, zero, suc, _+_, _-_, _≤_, _<_}
+use Prim.Native.Nat.{ℕ, suc, _+_, _-_, _≤_, _<_}
 use native.Mathlib.Nat.{not-suc-le-zero}
 use native.Mathlib.Numerals.{add-one}
 use native.Mathlib.Omega.{arith}
 use borrow.Author.Tests.{eq-eqb, ne-eqb}
-use lib.Dec.{eqb, leb}
 use lib.ListN.{length, length-append}
 use Rattle.table.specs.Kind as kind
 use Rattle.table.specs.Regions.{Regions, at}
 use Rattle.table.proofs.Draw.{cond-same, at-same}
 use Rattle.table.proofs.Fields.{each}
-use Rattle.rules.specs.Rows.{headOr, lastOr, rest, without, In, NotIn, Distinct, Below, Once, Rising}
-use Rattle.rules.specs.Linked.{Link, Linked, order}
+use Rattle.rules.specs.Rows.{headOr, lastOr, rest, without, In, NotIn, Distinct, Below, Once}
+use Rattle.rules.specs.Linked.{Link}
 use Rattle.rules.specs.History.{place}
 use Rattle.rules.specs.Draw.{group}
 use Rattle.rules.specs.Parts.{Ordered}
-use Rattle.rules.proofs.Rows.{not-both, in-either, in-left, in-right, apart-right, meets, distinct-right, distinct-drop, distinct-put, distinct-both, other, notin, notin-both, without-distinct, in-below, below-in, below-left, below-right, in-without, notin-without, without-length, gone, Within, split-at}
+use Rattle.rules.proofs.Rows.{not-both, in-either, in-left, in-right, apart-right, meets, distinct-right, distinct-drop, distinct-put, distinct-both, other, notin, notin-both, without-distinct, in-below, below-left, below-right, in-without, notin-without, without-length, gone, Within, split-at}
 use Rattle.rules.proofs.Linked.{head-link, last-link}
-use Rattle.links.specs.Pools.{Spare}
 use Rattle.links.proofs.Lists.{neighbour-links, elsewhere}
 use Rattle.links.proofs.Pools.{spare-so, spare-take}
 use Rattle.lookup.specs.Book.{enterRow, leaveRow}
 use Rattle.order.specs.Moves.{takeOut, after, putIn, raiseAfter, raised, lowerBefore, lowerAfter, lowered, takeRow, admitted, freeRow, dismissed}
 use Rattle.order.specs.Asks.{Standing}
 use Rattle.order.proofs.Joined.{joined, but, above, parts, parts-but}
-use Rattle.order.proofs.Sorted.{Counted, groups, group-in, in-group, joined-groups, group-joined, rising-joined, place-joined, counted-at, place-in, place-length, without-joined}
-use Rattle.order.proofs.Grouped.{Grouped, taken-grouped, taken-aside, raise-after, lower-after, placed-after, placed-grouped, placed-aside}
+use Rattle.order.proofs.Sorted.{groups, place-joined, counted-at, place-in, place-length}
+use Rattle.order.proofs.Grouped.{Grouped, placed-after, placed-grouped, placed-aside}
 use Rattle.order.proofs.Frames.{ordered-so}
 use Rattle.order.proofs.Bridge.{Spared, from-groups, in-order, to-groups, spared, once-so, Out, taken-out, free-aside}
 

@@ -1,7 +1,7 @@
 -- Rows in order of count are their groups one after the other: group k has the rows of count k + 1.
 use mathlib.Core.List.{List, [], _∷_, _++_, map, append-assoc, append-nil}
 use mathlib.Core.Bool.{Bool, true, false, cond}
-use mathlib.Core.Path.{_≡_, refl, sym, ap, ap₂, _∙_, subst}
+use mathlib.Core.Path.{_≡_, refl, sym, ap, _∙_, subst}
 use mathlib.Core.Logic.{⊎-elim, inl, inr}
 use Prim.Native.Nat.{ℕ, zero, suc, _+_, _-_, _≤_, _<_}
 use native.Mathlib.Omega.{arith}
@@ -28,19 +28,7 @@ module _ (c : ℕ → ℕ) where
       go true e f j = ⊎-elim (λ z. (inl z, ap c z ∙ eqb-true (c y) k e)) (λ z. (inr (f z .0), f z .1)) j
       go false e f j = (inr (f j .0), f j .1)
 
-  pub in-group : (x : ℕ) (xs : List ℕ) → In x xs → In x (group c (c x) xs)
-  in-group x [] i = absurd i
-  in-group x (y ∷ xs) i = go (eqb (c y) (c x)) refl (in-group x xs)
-    where
-      go : (b : Bool) → eqb (c y) (c x) ≡ b → (In x xs → In x (group c (c x) xs)) → In x (cond b (y ∷ group c (c x) xs) (group c (c x) xs))
-      go true e f = ⊎-elim (λ z. inl z) (λ j. inr (f j)) i
-      go false e f = ⊎-elim (λ z. absurd (eqb-false (c y) (c x) e (ap c (sym z)))) f i
-
   -- of rows of other counts, of that count, of others again, those in the middle
-  group-none : (k : ℕ) (xs : List ℕ) → ((x : ℕ) → In x xs → c x ≡ k → ⊥) → group c k xs ≡ []
-  group-none k [] h = refl
-  group-none k (x ∷ xs) h = rw (ne-eqb (c x) k (h x (inl refl))) (group-none k xs (λ y i. h y (inr i)))
-
   group-first : (k : ℕ) (ys zs : List ℕ) → ((x : ℕ) → In x ys → c x ≡ k) → group c k zs ≡ [] → group c k (ys ++ zs) ≡ ys
   group-first k [] zs h e = e
   group-first k (y ∷ ys) zs h e =
@@ -108,7 +96,8 @@ module _ (c : ℕ → ℕ) where
         ap (group c (suc i)) (parts g i q h)
         ∙ group-after (suc i) (joined g 0 i) _ (λ x j e. omega (arith, count-among 0 i x (omega arith) j .1))
         ∙ group-first (suc i) (g i) (above g i q) (λ x j. counted i x h j)
-        (group-none (suc i) (above g i q) (λ x j e. omega (arith, count-among (suc i) (q - suc i) x (omega arith) j .0)))
+        (ap (group c (suc i)) (sym (append-nil (above g i q)))
+        ∙ group-after (suc i) (above g i q) [] (λ x j e. omega (arith, count-among (suc i) (q - suc i) x (omega arith) j .0)))
 
     pub rising-joined : (n i m : ℕ) → i + n ≤ q → m ≤ suc i → Rising m (map c (joined g i n))
     rising-joined zero i m h l = tt

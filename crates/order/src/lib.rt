@@ -4,7 +4,7 @@ ghost use mathlib.Core.Path.{_≡_};
 ghost use Prim.Native.Nat.{_<_, _≤_};
 ghost use lib.ListN.{getD};
 ghost use Rattle.table.specs.Kind as kind;
-ghost use Rattle.table.specs.Regions.{Regions, Sized, Writes};
+ghost use Rattle.table.specs.Regions.{Sized, Writes};
 ghost use Rattle.rules.specs.Rows.{In};
 ghost use Rattle.rules.specs.Linked.{Link};
 ghost use Rattle.rules.specs.Spread.{IsSpread};
