@@ -21,7 +21,8 @@ use Rattle.lookup.specs.Book.{idOf, enterRow, leaveRow, put}
 use Rattle.lookup.specs.View.{Keeps, kept-below, word-after, kept-same, kept-id, kept-enter, kept-leave}
 use Rattle.order.specs.Moves.{endWithout, orElse, leaveGroup, enterGroup, takeOut, after, putIn, raiseAfter, raised, lowerBefore, lowerAfter, lowered, oneMore, oneLess, takeRow, admitted, clearRow, freeRow, dismissed}
 use Rattle.order.specs.Asks.{Finds, Drawn, Standing, Client, Vacant, Enters, Leaves}
-use Rattle.order.proofs.Ordered.{stands, raise-links, lower-links, lower-row, first-free, room-for}
+use Rattle.order.proofs.Moved.{stands, raise-links, lower-links, lower-row}
+use Rattle.order.proofs.Coming.{first-free, room-for}
 
 module _ {q : ℕ} {t : List ℕ} where
   -- groups
@@ -105,13 +106,6 @@ module _ {q : ℕ} {t : List ℕ} where
               hv ∙ rw (ea, eb, count-read D e .is R d);
         }
 
-  module _ {r : ℕ} (D : Drawn q t (λ R. (2 ≤ R .client r kind.count) × (lowerBefore r R < q))) where
-    pub two-read : {x : ℕ} → Finds q t (λ R. R .client r kind.count) x → 2 ≤ x
-    two-read f = rw (f .is (D .regs) (D .drawn)) (D .holds .0)
-
-    pub before-row : {x : ℕ} → Finds q t (lowerBefore r) x → x < q
-    before-row f = rw (f .is (D .regs) (D .drawn)) (D .holds .1)
-
   pub lower-found : (r : ℕ) {f v : ℕ} → Finds q t (lowerBefore r) f → f < q → v ≡ clientWord t q f kind.lighter → Finds q t (lowerAfter r) v
   lower-found r {f} g hf hv = record { is = λ R d. hv ∙ read-client q R f kind.lighter d hf (lit< tt) ∙ ap (λ (k : ℕ). R .client k kind.lighter) (g .is R d) }
 
@@ -154,23 +148,17 @@ module _ {q : ℕ} {t : List ℕ} where
     raise-writes g w y = move-writes hq D w (raiseAfter r) g (λ k. k + 1) hx y
 
   module _ {r : ℕ} (hq : q ≤ kind.largest) (D : Drawn q t (Client q r (λ n. 2 ≤ n))) where
-    pub lower-finds : Drawn q t (λ R. (2 ≤ R .client r kind.count) × (lowerBefore r R < q))
-    lower-finds =
-        let o = D .holds .ordered in
-        record {
-          regs = D .regs;
-          drawn = D .drawn;
-          holds = (rw (o .counted r (D .holds .there)) (D .holds .counts), lower-row hq o r (D .holds .there) (D .holds .counts));
-        }
+    pub before-row : {x : ℕ} → Finds q t (lowerBefore r) x → x < q
+    before-row f = rw (f .is (D .regs) (D .drawn)) (lower-row hq (D .holds .ordered) r (D .holds .there) (D .holds .counts))
 
     module _ {x : ℕ} (hx : x ≡ clientWord t q r kind.count) where
-      pub some : 2 ≤ x
-      some = rw (count-is hq D hx) (D .holds .counts)
+      pub two : 2 ≤ x
+      two = rw (count-is hq D hx) (D .holds .counts)
 
       pub lower-asks : {a : List ℕ} {e : ℕ} → Finds q t (lowerAfter r) e → Writes q t a (takeOut r) 4
           → ((r < q) × (1 ≤ x - 1) × (x - 1 ≤ q)) × (Link q e × Drawn q a (λ R. Link q (after e R)))
       lower-asks g w =
-          put-asks hq D w (lowerAfter r) g (lower-links hq (D .holds .ordered) r (D .holds .there) (D .holds .counts)) (x - 1) (omega (arith, some)) (omega (arith, count-in (client-stands hq D) hx))
+          put-asks hq D w (lowerAfter r) g (lower-links hq (D .holds .ordered) r (D .holds .there) (D .holds .counts)) (x - 1) (omega (arith, two)) (omega (arith, count-in (client-stands hq D) hx))
 
       pub lower-writes : {a b : List ℕ} {e : ℕ} → Finds q t (lowerAfter r) e → Writes q t a (takeOut r) 4 → Writes q a b (putIn r (x - 1) e) 7 → Writes q t b (lowered r) 11
       lower-writes g w y = move-writes hq D w (lowerAfter r) g (λ k. k - 1) hx y

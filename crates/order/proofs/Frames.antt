@@ -4,7 +4,7 @@ use mathlib.Core.Path.{_≡_, refl, sym, ap, _∙_}
 use Prim.Native.Nat.{ℕ, _+_, _-_}
 use borrow.Author.Tests.{ne-eqb}
 use Rattle.table.specs.Kind as kind
-use Rattle.table.specs.Regions.{Regions}
+use Rattle.table.specs.Regions.{Regions, at}
 use Rattle.table.proofs.Fields.{each}
 use Rattle.rules.specs.Parts.{Ordered}
 use Rattle.links.proofs.Lists.{linked-so}
@@ -87,3 +87,10 @@ admitted-book q id R = refl
 
 pub dismissed-book : (q r : ℕ) (R : Regions) → book (dismissed q r R) ≡ withId r 0 (book (leaveRow q r R))
 dismissed-book q r R = refl
+
+-- the ids
+pub admitted-id : (q id x : ℕ) (R : Regions) → admitted q id R .client x kind.id ≡ at (λ y. R .client y kind.id) (R .header kind.freeClientAt) id x
+admitted-id q id x R = refl
+
+pub dismissed-id : (q r x : ℕ) (R : Regions) → dismissed q r R .client x kind.id ≡ at (λ y. R .client y kind.id) r 0 x
+dismissed-id q r x R = refl

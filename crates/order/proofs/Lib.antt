@@ -5,5 +5,6 @@ pub mod Ends
 pub mod Grouped
 pub mod Bridge
 pub mod Frames
-pub mod Ordered
+pub mod Moved
+pub mod Coming
 pub mod Calls

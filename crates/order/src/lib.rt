@@ -9,7 +9,7 @@ ghost use Rattle.rules.specs.Rows.{In};
 ghost use Rattle.rules.specs.Linked.{Link};
 ghost use Rattle.rules.specs.Spread.{IsSpread};
 ghost use Rattle.lookup.specs.View.{Kept};
-ghost use Rattle.order.specs.Moves.{endWithout, orElse, leaveGroup, enterGroup, takeOut, after as afterIn, putIn, raiseAfter, raised, lowerBefore, lowerAfter, lowered, takeRow, oneMore, oneLess, admitted, clearRow, freeRow, dismissed};
+ghost use Rattle.order.specs.Moves.{endWithout, orElse, leaveGroup, enterGroup, takeOut, after as afterIn, putIn, raiseAfter, raised, lowerAfter, lowered, takeRow, oneMore, oneLess, admitted, clearRow, freeRow, dismissed};
 ghost use Rattle.order.specs.Asks.{Finds, Drawn, Standing, Client, Vacant, Enters, Leaves};
 use table::LinkedTable;
 
@@ -147,8 +147,7 @@ fn raise_after(t: &[u32], q: usize, r: u32) -> u32
 // The row that r comes to stand after when it is lowered: the one before the lighter end of the group below, or of its own.
 fn lower_after(t: &[u32], q: usize, r: u32) -> u32
     requires { ⌜ Sized q (now t) ⌝ }
-    requires { ⌜ Drawn q (now t) (Standing q r) ⌝ }
-    requires { ⌜ Drawn q (now t) (λ R. (2 ≤ R .client r kind.count) × (lowerBefore r R < q)) ⌝ }
+    requires { ⌜ Drawn q (now t) (Client q r (λ n. 2 ≤ n)) ⌝ }
     ensures { λ x. ⌜ Finds q (now (t .entry)) (lowerAfter r) x ⌝ }
 {
     let c = table::client(t, q, r, LinkedTable::WAITING);

@@ -15,13 +15,26 @@ client-requires : tie.Need-client-requires
 client-requires c κs = search needs
 
 returns : tie.Need-returns
-returns c = let s = c .before .before .before .before .before in end-found (s .pre .1 .0) (s .pre .1 .1) (c .before .before .before .count-end .ensures) (c .before .before .count-end2 .ensures) (rw (eq-eqb _ _ (c .before .if1 .taken), eq-eqb _ _ (c .if2 .taken)))
+returns c =
+    let b = c .before .before in
+    let a = b .before in
+    let s = a .before .before in
+    end-found (s .pre .1 .0) (s .pre .1 .1) (a .count-end .ensures) (b .count-end2 .ensures) (rw (eq-eqb _ _ (c .before .if1 .taken), eq-eqb _ _ (c .if2 .taken)))
 
 returns-2 : tie.Need-returns-2
-returns-2 c = let s = c .before .before .before .before .before .before in end-found (s .pre .1 .0) (s .pre .1 .1) (c .before .before .before .before .count-end .ensures) (c .before .before .before .count-end2 .ensures) (rw (eq-eqb _ _ (c .before .before .if1 .taken), ne-eqb _ _ (c .before .if2 .left)) (c .client .ensures))
+returns-2 c =
+    let b = c .before .before .before in
+    let a = b .before in
+    let s = a .before .before in
+    end-found (s .pre .1 .0) (s .pre .1 .1) (a .count-end .ensures) (b .count-end2 .ensures)
+    (rw (eq-eqb _ _ (c .before .before .if1 .taken), ne-eqb _ _ (c .before .if2 .left)) (c .client .ensures))
 
 returns-3 : tie.Need-returns-3
-returns-3 c = let s = c .before .before .before .before in end-found (s .pre .1 .0) (s .pre .1 .1) (c .before .before .count-end .ensures) (c .before .count-end2 .ensures) (rw (ne-eqb _ _ (c .if1 .left)))
+returns-3 c =
+    let b = c .before in
+    let a = b .before in
+    let s = a .before .before in
+    end-found (s .pre .1 .0) (s .pre .1 .1) (a .count-end .ensures) (b .count-end2 .ensures) (rw (ne-eqb _ _ (c .if1 .left)))
 
 pub end-without-spec : {M : Type 1} → statement M
 end-without-spec =

@@ -1,7 +1,7 @@
 -- Taken out, and put in one group down: where it goes can be followed, since the order is right. Assumes nothing.
 use borrow.Author.Needs.{needs}
 use native.Mathlib.Omega.{arith}
-use Rattle.order.proofs.Calls.{client-stands, client-row, lower-finds, some, lower-asks, lower-writes}
+use Rattle.order.proofs.Calls.{client-stands, client-row, two, lower-asks, lower-writes}
 use Rattle.order.proofs.lower.Statement.{statement}
 use Rattle.order.proofs.lower.Tie as tie
 
@@ -9,7 +9,7 @@ client-requires : tie.Need-client-requires
 client-requires c κs = search (client-row, needs)
 
 lower-after-requires : tie.Need-lower-after-requires
-lower-after-requires c κs = let s = c .before .before .before .before in (search needs, (client-stands (s .pre .0 .small) (s .pre .1), lower-finds (s .pre .0 .small) (s .pre .1)))
+lower-after-requires c κs = search needs
 
 remove-requires : tie.Need-remove-requires
 remove-requires c κs = search (client-stands, needs)
@@ -18,7 +18,7 @@ sub-put-in : tie.Need-sub-put-in
 sub-put-in c =
     let x = c .before .before .before .before .before .before .before in
     let s = x .before .before .before in
-    omega (arith, some (s .pre .0 .small) (s .pre .1) (x .client .ensures), s .pre .0 .small)
+    omega (arith, two (s .pre .0 .small) (s .pre .1) (x .client .ensures), s .pre .0 .small)
 
 put-in-requires : tie.Need-put-in-requires
 put-in-requires c κs =

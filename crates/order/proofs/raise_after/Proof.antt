@@ -23,10 +23,18 @@ client-requires-2 : tie.Need-client-requires-2
 client-requires-2 c κs = search needs
 
 returns : tie.Need-returns
-returns c = let s = c .before .before .before .before .before in raise-found (s .pre .1) (c .before .before .before .client .ensures) (c .before .before .count-end .ensures) (rw (eq-eqb _ _ (c .before .if1 .taken)) (c .client2 .ensures))
+returns c =
+    let b = c .before .before in
+    let x = b .before in
+    let s = x .before .before in
+    raise-found (s .pre .1) (x .client .ensures) (b .count-end .ensures) (rw (eq-eqb _ _ (c .before .if1 .taken)) (c .client2 .ensures))
 
 returns-2 : tie.Need-returns-2
-returns-2 c = let s = c .before .before .before .before in raise-found (s .pre .1) (c .before .before .client .ensures) (c .before .count-end .ensures) (rw (ne-eqb _ _ (c .if1 .left)))
+returns-2 c =
+    let b = c .before in
+    let x = b .before in
+    let s = x .before .before in
+    raise-found (s .pre .1) (x .client .ensures) (b .count-end .ensures) (rw (ne-eqb _ _ (c .if1 .left)))
 
 pub raise-after-spec : {M : Type 1} → statement M
 raise-after-spec =

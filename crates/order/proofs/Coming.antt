@@ -1,8 +1,8 @@
--- The order of clients, said by the list: raised and lowered, a client stands where the plain history's rule places it.
+-- A client comes, in the first free row and lightest of all; and a client goes, whose row is then the first free one.
 use mathlib.Core.List.{List, [], _∷_, _++_}
 use mathlib.Core.Path.{_≡_, refl, sym, ap, _∙_, subst}
 use mathlib.Core.Logic.{⊎-elim, inl, inr}
-use Prim.Native.Nat.{ℕ, suc, _+_, _-_, _≤_, _<_}
+use Prim.Native.Nat.{ℕ, suc, _≤_, _<_}
 use native.Mathlib.Nat.{not-suc-le-zero}
 use native.Mathlib.Numerals.{add-one}
 use native.Mathlib.Omega.{arith}
@@ -10,114 +10,20 @@ use borrow.Author.Tests.{eq-eqb, ne-eqb}
 use lib.ListN.{length, length-append}
 use Rattle.table.specs.Kind as kind
 use Rattle.table.specs.Regions.{Regions, at}
-use Rattle.table.proofs.Draw.{cond-same, at-same}
+use Rattle.table.proofs.Draw.{cond-same}
 use Rattle.table.proofs.Fields.{each}
-use Rattle.rules.specs.Rows.{headOr, lastOr, rest, without, In, NotIn, Distinct, Below, Once}
-use Rattle.rules.specs.Linked.{Link}
-use Rattle.rules.specs.History.{place}
-use Rattle.rules.specs.Draw.{group}
+use Rattle.rules.specs.Rows.{headOr, rest, without, In, NotIn, Once}
 use Rattle.rules.specs.Parts.{Ordered}
-use Rattle.rules.proofs.Rows.{not-both, in-either, in-left, in-right, apart-right, meets, distinct-right, distinct-drop, distinct-put, distinct-both, other, notin, notin-both, without-distinct, in-below, below-left, below-right, in-without, notin-without, without-length, gone, Within, split-at}
-use Rattle.rules.proofs.Linked.{head-link, last-link}
-use Rattle.links.proofs.Lists.{neighbour-links, elsewhere}
+use Rattle.rules.proofs.Rows.{not-both, in-either, in-left, in-right, apart-right, meets, distinct-right, distinct-drop, distinct-put, distinct-both, other, notin, notin-both, without-distinct, in-below, in-without, without-length, gone}
+use Rattle.links.proofs.Lists.{elsewhere}
 use Rattle.links.proofs.Pools.{spare-so, spare-take}
 use Rattle.lookup.specs.Book.{enterRow, leaveRow}
-use Rattle.order.specs.Moves.{takeOut, after, putIn, raiseAfter, raised, lowerBefore, lowerAfter, lowered, takeRow, admitted, freeRow, dismissed}
-use Rattle.order.specs.Asks.{Standing}
-use Rattle.order.proofs.Joined.{joined, but, above, parts, parts-but}
-use Rattle.order.proofs.Sorted.{groups, place-joined, counted-at, place-in, place-length}
-use Rattle.order.proofs.Grouped.{Grouped, placed-after, placed-grouped, placed-aside}
+use Rattle.order.specs.Moves.{takeOut, takeRow, admitted, freeRow, dismissed}
+use Rattle.order.proofs.Joined.{joined, but, parts, parts-but}
+use Rattle.order.proofs.Sorted.{groups, counted-at}
+use Rattle.order.proofs.Grouped.{Grouped, placed-grouped, placed-aside}
 use Rattle.order.proofs.Frames.{ordered-so}
 use Rattle.order.proofs.Bridge.{Spared, from-groups, in-order, to-groups, spared, once-so, Out, taken-out, free-aside}
-
-module _ {q : ℕ} {R : Regions} {rows : List ℕ} {n : ℕ → ℕ} {free : List ℕ} (hq : q ≤ kind.largest) (o : Ordered q R rows n free) (r : ℕ) (there : In r rows) where
-  u : Out q R rows n r
-  u = taken-out hq o r there
-
-  -- r is put in again, in group j, after e
-  module _ (j e : ℕ) (hj : j < q) (he : e ≡ lastOr kind.none (joined (u .others) 0 j)) where
-    next-links : Link q e × Link q (after e (takeOut r R))
-    next-links =
-        let less = joined (u .others) 0 j in
-        let more = u .others j ++ above (u .others) j q in
-        let b : Below q (less ++ more) = rw (parts (u .others) j q hj) at (u .taken .linked .below) in
-        (rw he (last-link q less (below-left q less more b)), rw (placed-after q hq (takeOut r R) n (u .others) (u .taken) r j hj 0 e he) (head-link q more (below-right q less more b)))
-
-    -- with the count m
-    module _ (m : ℕ) (hm : m ≡ suc j) where
-      abbrev rows′ : List ℕ
-      rows′ = place (at n r m) r (without r rows)
-
-      placed : Grouped q (putIn r m e (takeOut r R)) (at n r m) (but (u .others) j (r ∷ u .others j))
-      placed = placed-grouped q hq (takeOut r R) n (u .others) (u .taken) r j hj m e he hm (u .row) (u .gone)
-
-      is-placed : joined (but (u .others) j (r ∷ u .others j)) 0 q ≡ rows′
-      is-placed =
-          sym (place-joined (at n r m) q (u .others) (counted-at n q (u .others) r m (u .gone) (u .taken .sorted)) r j hj (at-same n r m ∙ hm))
-          ∙ ap (place (at n r m) r) (u .rest)
-
-      still : Within rows′ rows
-      still x k = ⊎-elim (λ e. rw e there) (λ z. in-without r x rows z) (place-in (at n r m) r x (without r rows) k)
-
-      as-long : length rows′ ≡ length rows
-      as-long = place-length (at n r m) r (without r rows) ∙ sym (without-length r rows there)
-
-      idle : (x f : ℕ) → In x free → R .client x f ≡ putIn r m e (takeOut r R) .client x f
-      idle x f k =
-          let a = free-aside hq o x k in
-          sym
-          (placed-aside q hq (takeOut r R) n (u .others) (u .taken) r j hj m e he x f (λ z. not-both x rows (rw z there) (a .1)) (rw (u .rest) (a .0, notin-without r x rows (a .1)))
-          ∙ u .aside x f a)
-
-      moved : Ordered q (putIn r m e (takeOut r R)) rows′ (at n r m) free
-      moved =
-          let d : Distinct rows′ = rw is-placed at (placed .linked .distinct) in
-          from-groups rows′ placed is-placed (o .number ∙ sym as-long)
-          (once-so (rows′ ++ free) (o .each)
-          (distinct-both rows′ free d (distinct-right rows free (o .each .distinct)) (λ x a b. not-both x rows (still x a) (free-aside hq o x b .1)))
-          (λ x k. ⊎-elim (λ a. in-left x rows free (still x a)) (λ b. in-right x rows free b) (in-either x rows′ free k))
-          (simp length-append (ap (λ (k : ℕ). k + length free) as-long)))
-          (spare-so (putIn r m e (takeOut r R) .client) idle (spared o))
-
-  -- what the code asks of r
-  pub stands : Standing q r R
-  stands =
-      let near = neighbour-links (o .linked) r there in
-      record { row = u .row; least = omega (arith, u .counted); most = omega (arith, u .counted, u .within); lighter = near .0; heavier = near .1 }
-
-  -- one more
-  module _ (h : n r < q) where
-    up : suc (u .group) < q
-    up = omega (arith, u .sorted)
-
-    pub raise-links : Link q (raiseAfter r R) × Link q (after (raiseAfter r R) (takeOut r R))
-    raise-links = next-links (suc (u .group)) (raiseAfter r R) up (u .raise)
-
-    pub raised-ordered : Ordered q (raised r R) (place (at n r (n r + 1)) r (without r rows)) (at n r (n r + 1)) free
-    raised-ordered =
-        subst (λ (k : ℕ). Ordered q (raised r R) (place (at n r (k + 1)) r (without r rows)) (at n r (k + 1)) free) (o .counted r there)
-        (moved (suc (u .group)) (raiseAfter r R) up (u .raise) (R .client r kind.count + 1) (omega (arith, u .counted)))
-
-  -- one less
-  module _ (h : 2 ≤ n r) where
-    lower : suc (u .group - 1) ≡ u .group
-    lower = omega (arith, u .sorted)
-
-    down : u .group - 1 < q
-    down = omega (arith, u .within)
-
-    pub lower-row : lowerBefore r R < q
-    lower-row = u .lowerRow (u .group - 1) lower
-
-    pub lower-links : Link q (lowerAfter r R) × Link q (after (lowerAfter r R) (takeOut r R))
-    lower-links = next-links (u .group - 1) (lowerAfter r R) down (u .lower (u .group - 1) lower)
-
-    pub lowered-ordered : Ordered q (lowered r R) (place (at n r (n r - 1)) r (without r rows)) (at n r (n r - 1)) free
-    lowered-ordered =
-        subst (λ (k : ℕ). Ordered q (lowered r R) (place (at n r (k - 1)) r (without r rows)) (at n r (k - 1)) free) (o .counted r there)
-        (moved (u .group - 1) (lowerAfter r R) down (u .lower (u .group - 1) lower) (R .client r kind.count - 1) (omega (arith, u .counted, lower)))
-
--- a client comes
 
 module _ {q : ℕ} {R : Regions} {rows : List ℕ} {n : ℕ → ℕ} {first : ℕ} {free : List ℕ} (hq : q ≤ kind.largest) (o : Ordered q R rows n (first ∷ free)) (id : ℕ) where
   abbrev r : ℕ
@@ -199,15 +105,15 @@ module _ {q : ℕ} {R : Regions} {rows : List ℕ} {n : ℕ → ℕ} {free : Lis
       ordered-so
       (record { number = refl; lightest = refl; heaviest = refl; free = refl; id = λ x. refl; count = λ x. refl; lighter = λ x. refl; heavier = λ x. refl; ends = refl }) o
 
-  v : Out q left rows n r
-  v = taken-out hq out-of-bucket r there
+  out : Out q left rows n r
+  out = taken-out hq out-of-bucket r there
 
-  gone-grouped : Grouped q (dismissed q r R) n (v .others)
+  gone-grouped : Grouped q (dismissed q r R) n (out .others)
   gone-grouped =
-      let G = v .taken in
+      let G = out .taken in
       record {
-        linked = elsewhere r 0 r _ (v .gone) (v .gone) (G .linked);
-        counted = counted-at (λ x. left .client x kind.count) q (v .others) r 0 (v .gone) (G .counted);
+        linked = elsewhere r 0 r _ (out .gone) (out .gone) (G .linked);
+        counted = counted-at (λ x. left .client x kind.count) q (out .others) r 0 (out .gone) (G .counted);
         sorted = G .sorted;
         lightEnd = G .lightEnd;
         heavyEnd = G .heavyEnd;
@@ -219,7 +125,6 @@ module _ {q : ℕ} {R : Regions} {rows : List ℕ} {n : ℕ → ℕ} {free : Lis
   gone-each : Once q (without r rows ++ r ∷ free)
   gone-each =
       let d = o .each .distinct in
-      let s = split-at r rows there in
       once-so (without r rows ++ r ∷ free) (o .each)
       (distinct-put r (without r rows) free
       (notin-both r (without r rows) free (gone r rows there (o .linked .distinct)) (notin r free (λ i. not-both r rows there (apart-right r rows free d i))))
@@ -231,7 +136,7 @@ module _ {q : ℕ} {R : Regions} {rows : List ℕ} {n : ℕ → ℕ} {free : Lis
   gone-idle x f i =
       let a = free-aside hq o x i in
       let n′ : x ≡ r → ⊥ = λ e. not-both x rows (rw e there) (a .1) in
-      sym (freed-other r x f (takeOut r left) n′ ∙ v .aside x f a)
+      sym (freed-other r x f (takeOut r left) n′ ∙ out .aside x f a)
 
   gone-spared : Spared (dismissed q r R) (r ∷ free)
   gone-spared =
@@ -244,4 +149,4 @@ module _ {q : ℕ} {R : Regions} {rows : List ℕ} {n : ℕ → ℕ} {free : Lis
       }
 
   pub dismissed-ordered : Ordered q (dismissed q r R) (without r rows) n (r ∷ free)
-  dismissed-ordered = from-groups (without r rows) gone-grouped (v .rest) (omega (arith, o .number, less)) gone-each gone-spared
+  dismissed-ordered = from-groups (without r rows) gone-grouped (out .rest) (omega (arith, o .number, less)) gone-each gone-spared
