@@ -9,7 +9,7 @@ use Rattle.table.specs.Regions.{at}
 use Rattle.table.proofs.Draw.{at-same, at-other}
 use Rattle.rules.specs.Rows.{headOr, lastOr, without, In, NotIn, Distinct, Below}
 use Rattle.rules.specs.Linked.{Link, Links, Run, Linked}
-use Rattle.rules.proofs.Rows.{not-both, other, in-left, notin-left, notin-right, distinct-left, distinct-right, distinct-drop, distinct-put, apart-right, below-drop, below-put, in-below, notin, past, last-in, head-in, split-at}
+use Rattle.rules.proofs.Rows.{other, notin-left, notin-right, distinct-left, distinct-right, distinct-drop, distinct-put, apart-right, below-drop, below-put, in-below, notin, past, last-in, head-in, split-at}
 use Rattle.rules.proofs.Linked.{run-head, run-last}
 use Rattle.links.specs.Steps.{linkOn, linkBack, unlink, insert, ended}
 
@@ -114,12 +114,21 @@ elsewhere {L = L} {rs} a v c w na nc =
     let else : (y x : ℕ) → NotIn y rs → In x rs → x ≡ y → ⊥ = λ y x n i z. other y x rs n i (sym z) in
     linked-so refl refl (λ x i. (sym (at-other (L .back) a v x (else a x na i)), sym (at-other (L .on) c w x (else c x nc i))))
 
--- where a row stands, its neighbours
-run-ends : (b o : ℕ → ℕ) (p h r : ℕ) (xs ys : List ℕ) (n l : ℕ) → Run b o p h (xs ++ r ∷ ys) n l → (b r ≡ lastOr p xs) × (o r ≡ headOr n ys)
-run-ends b o p h r [] ys n l k = (k .1, run-head b o r (o r) ys n l (k .2))
-run-ends b o p h r (x ∷ xs) ys n l k = run-ends b o x (o x) r xs ys n l (k .2)
+-- the neighbours of a row, where it stands
+run-around : (b o : ℕ → ℕ) (p h r : ℕ) (xs ys : List ℕ) (n l : ℕ) → Run b o p h (xs ++ r ∷ ys) n l → (b r ≡ lastOr p xs) × (o r ≡ headOr n ys)
+run-around b o p h r [] ys n l k = (k .1, run-head b o r (o r) ys n l (k .2))
+run-around b o p h r (x ∷ xs) ys n l k = run-around b o x (o x) r xs ys n l (k .2)
 
-module _ (q : ℕ) (hq : q ≤ kind.none) where
+pub around : {q : ℕ} {L : Links} (r : ℕ) (xs ys : List ℕ) → Linked q L (xs ++ r ∷ ys) → (L .back r ≡ lastOr kind.none xs) × (L .on r ≡ headOr kind.none ys)
+around {L = L} r xs ys k = run-around (L .back) (L .on) kind.none (L .first) r xs ys kind.none (L .last) (k .run)
+
+-- where two parts of a ring meet
+ring-meet : (b o : ℕ → ℕ) (p : ℕ) (xs ys : List ℕ) (n : ℕ) → Ring b o p (xs ++ ys) n → (o (lastOr p xs) ≡ headOr n ys) × (b (headOr n ys) ≡ lastOr p xs)
+ring-meet b o p [] [] n r = r
+ring-meet b o p [] (y ∷ ys) n r = (r .0, r .1)
+ring-meet b o p (x ∷ xs) ys n r = ring-meet b o x xs ys n (r .2)
+
+module _ (q : ℕ) (hq : q ≤ kind.largest) where
   row : (rs : List ℕ) → Below q rs → (x : ℕ) → In x rs → x ≡ kind.none → ⊥
   row rs b x i e = omega (arith, in-below q rs b x i)
 
@@ -128,6 +137,14 @@ module _ (q : ℕ) (hq : q ≤ kind.none) where
       run-so (L .back) (L .on) _ _ kind.none (L .first) (L .first) rs kind.none (L .last) (L .last) refl refl
       (λ x i. let n = row rs (k .below) x i in (sym (at-other (L .back) kind.none (L .last) x n), sym (at-other (L .on) kind.none (L .first) x n)))
       (k .run)
+
+  -- the link on from the last of the first part, which from none is the first row; and the link back likewise
+  pub meet : (L : Links) (xs ys : List ℕ) → Linked q L (xs ++ ys)
+      → (at (L .on) kind.none (L .first) (lastOr kind.none xs) ≡ headOr kind.none ys) × (at (L .back) kind.none (L .last) (headOr kind.none ys) ≡ lastOr kind.none xs)
+  meet L xs ys k = ring-meet _ _ kind.none xs ys kind.none (ring L (xs ++ ys) k)
+
+  not-row : (rs : List ℕ) → Below q rs → NotIn kind.none rs
+  not-row rs b = past q kind.none rs (omega arith) b
 
   -- two links turned, in the ring and in the list
   unring : (L : Links) (e v l w : ℕ) (rs : List ℕ) → Below q rs
@@ -139,12 +156,14 @@ module _ (q : ℕ) (hq : q ≤ kind.none) where
 
   pub unlink-linked : (L : Links) (r : ℕ) (xs ys : List ℕ) → Linked q L (xs ++ r ∷ ys) → Linked q (unlink r L) (xs ++ ys)
   unlink-linked L r xs ys k =
-      let ends = run-ends (L .back) (L .on) kind.none (L .first) r xs ys kind.none (L .last) (k .run) in
+      let prev = lastOr kind.none xs in
+      let next = headOr kind.none ys in
+      let near = around r xs ys k in
       let b = below-drop q r xs ys (k .below) in
       record {
-        run = rw (ends .0, ends .1)
-            (unring L (lastOr kind.none xs) (headOr kind.none ys) (headOr kind.none ys) (lastOr kind.none xs) (xs ++ ys) b
-            (unlink-ring _ _ kind.none r xs ys (past q kind.none (xs ++ r ∷ ys) hq (k .below), k .distinct) (ring L (xs ++ r ∷ ys) k)));
+        run = rw (near .0, near .1)
+            (unring L prev next next prev (xs ++ ys) b
+            (unlink-ring _ _ kind.none r xs ys (not-row (xs ++ r ∷ ys) (k .below), k .distinct) (ring L (xs ++ r ∷ ys) k)));
         distinct = distinct-drop r xs ys (k .distinct);
         below = b;
       }
@@ -157,17 +176,17 @@ module _ (q : ℕ) (hq : q ≤ kind.none) where
   pub insert-linked : (L : Links) (r e l : ℕ) (xs ys : List ℕ) → e ≡ lastOr kind.none xs → l ≡ headOr kind.none ys → NotIn r (xs ++ ys) → r < q
       → Linked q L (xs ++ ys) → Linked q (insert r e l L) (xs ++ r ∷ ys)
   insert-linked L r e l xs ys he hl n hr k =
-      let E = lastOr kind.none xs in
-      let F = headOr kind.none ys in
-      let L′ : Links = record { back = at (L .back) r E; on = at (L .on) r F; first = L .first; last = L .last } in
+      let prev = lastOr kind.none xs in
+      let next = headOr kind.none ys in
+      let L′ : Links = record { back = at (L .back) r prev; on = at (L .on) r next; first = L .first; last = L .last } in
       let b = below-put q r xs ys hr (k .below) in
       let row-r : r ≡ kind.none → ⊥ = λ z. omega arith in
       record {
         run = rw (he, hl)
-            (unring L′ E r F r (xs ++ r ∷ ys) b
-            (insert-ring _ _ kind.none r xs ys (past q kind.none (xs ++ ys) hq (k .below), k .distinct) (row-r, n)
-            (at-other (L′ .back) kind.none (L .last) r row-r ∙ at-same (L .back) r E) (at-other (L′ .on) kind.none (L .first) r row-r ∙ at-same (L .on) r F)
-            (ring L′ (xs ++ ys) (elsewhere r E r F n n k))));
+            (unring L′ prev r next r (xs ++ r ∷ ys) b
+            (insert-ring _ _ kind.none r xs ys (not-row (xs ++ ys) (k .below), k .distinct) (row-r, n)
+            (at-other (L′ .back) kind.none (L .last) r row-r ∙ at-same (L .back) r prev) (at-other (L′ .on) kind.none (L .first) r row-r ∙ at-same (L .on) r next)
+            (ring L′ (xs ++ ys) (elsewhere r prev r next n n k))));
         distinct = distinct-put r xs ys n (k .distinct);
         below = b;
       }
@@ -224,9 +243,9 @@ module _ {q : ℕ} {L : Links} {rs : List ℕ} (k : Linked q L rs) where
 
 -- another list over the same columns, with no row in common
 
-module _ (q : ℕ) (hq : q ≤ kind.none) (rs ss : List ℕ) (apart : (x : ℕ) → In x ss → In x rs → ⊥) where
+module _ (q : ℕ) (hq : q ≤ kind.largest) (rs ss : List ℕ) (apart : (x : ℕ) → In x ss → In x rs → ⊥) where
   stranger : (y : ℕ) → Below q ss → In y (kind.none ∷ rs) → NotIn y ss
-  stranger y b i = ⊎-elim (λ e. rw e (past q kind.none ss hq b)) (λ j. notin y ss (λ s. apart y s j)) i
+  stranger y b i = ⊎-elim (λ e. rw e (not-row q hq ss b)) (λ j. notin y ss (λ s. apart y s j)) i
 
   pub unlink-apart : (L : Links) (r f l : ℕ) → In r rs → Linked q L rs → Linked q (ended L f l) ss → Linked q (ended (unlink r L) f l) ss
   unlink-apart L r f l i k m =

@@ -11,13 +11,13 @@ use lib.Dec.{eqb}
 use lib.ListN.{getD, set}
 use borrow.Author.Tests.{eqb-true, eqb-false, eq-eqb, ne-eqb}
 use Rattle.table.specs.Kind as kind
-use Rattle.table.specs.Regions.{Regions, words, upd, setHeader, Writes}
-use Rattle.table.proofs.Draw.{cond-same}
+use Rattle.table.specs.Regions.{words, at, upd, setHeader, Writes}
+use Rattle.table.proofs.Draw.{cond-same, at-other}
 use Rattle.table.proofs.Write.{nothing, one, then, more, drawn-so, so-read, read-header}
 use Rattle.rules.specs.Rows.{In, NotIn}
 use Rattle.rules.specs.Linked.{Chain}
 use Rattle.rules.proofs.Rows.{other}
-use Rattle.links.specs.Strands.{Region, put}
+use Rattle.links.specs.Strands.{Region, place, put}
 use Rattle.links.specs.Pools.{Pool, blank, Spare, takeFrom, freeInto, blanked}
 use Rattle.links.proofs.Strands.{Stands, upd-other}
 
@@ -29,10 +29,13 @@ blank-row g r c v j = rw (eq-eqb r r refl)
 blank-other : (g : ℕ → ℕ → ℕ) (r c v i j : ℕ) → (i ≡ r → ⊥) → blank g r c v i j ≡ g i j
 blank-other g r c v i j n = rw (ne-eqb i r n) (cond-same (eqb j c) (g i j))
 
--- rows chained one way, whose column is altered elsewhere
+-- rows chained one way, whose column agrees with another at them; whose column is altered elsewhere
 pub chain-so : (o o′ : ℕ → ℕ) (h h′ : ℕ) (rs : List ℕ) → h ≡ h′ → ((x : ℕ) → In x rs → o x ≡ o′ x) → Chain o h rs → Chain o′ h′ rs
 chain-so o o′ h h′ [] e g k = sym e ∙ k
 chain-so o o′ h h′ (x ∷ rs) e g k = (sym e ∙ k .0, chain-so o o′ (o x) (o′ x) rs (g x (inl refl)) (λ y i. g y (inr i)) (k .1))
+
+pub chain-at : (o : ℕ → ℕ) (h e v : ℕ) (rs : List ℕ) → NotIn e rs → Chain o h rs → Chain (at o e v) h rs
+chain-at o h e v rs n = chain-so o (at o e v) h h rs refl (λ x i. sym (at-other o e v x (λ z. other e x rs n i (sym z))))
 
 module _ {w : ℕ} {g : ℕ → ℕ → ℕ} {c h : ℕ} where
   -- the first is taken
@@ -91,21 +94,21 @@ module _ {q : ℕ} {g : Region} (K : Stands q g) (t : List ℕ) (r c v : ℕ) (h
   wipes (suc n) h =
       let w = cond (eqb n c) v 0 in
       more (suc n) (omega arith)
-      (drawn-so (then (wipes n (omega arith)) (one q _ (g .from q + g .width * r + n) w (put g r n w) (λ R. K .set R r n w hr (omega arith))))
+      (drawn-so (then (wipes n (omega arith)) (one q _ (place q g r n) w (put g r n w) (λ R. K .write R r n w hr (omega arith))))
       (λ R. ap (words q) (K .again R (wipe (g .word R) r c v n) r n w)))
 
   blank-writes : Writes q t (blanked (g .from q + g .width * r) c v (g .width) t) (λ R. g .with (blank (g .word R) r c v) R) (g .width)
-  blank-writes = drawn-so (wipes (g .width) (omega arith)) (λ R. K .so R _ _ (λ i j hi hj. wipe-blank (g .word R) r c v (g .width) i j hj))
+  blank-writes = drawn-so (wipes (g .width) (omega arith)) (λ R. K .agree R _ _ (λ i j hi hj. wipe-blank (g .word R) r c v (g .width) i j hj))
 
 -- taking and freeing, once for both kinds of rows
 module _ {q : ℕ} {P : Pool} (K : Stands q (P .rows)) (head : P .head < kind.headerWords) (link : P .link < P .rows .width) {t b : List ℕ} (r : ℕ) (hr : r < P .rows .number q) where
-  pub take-writes : (n : ℕ) → r ≡ getD t (P .head) 0 → n ≡ getD t (P .rows .from q + P .rows .width * r + P .link) 0
+  pub take-writes : (n : ℕ) → r ≡ getD t (P .head) 0 → n ≡ getD t (place q (P .rows) r (P .link)) 0
       → Writes q t b (setHeader (P .head) n) 1 → Writes q t b (takeFrom P) 1
   take-writes n er en w =
       so-read w
       (λ R d.
       let first : r ≡ R .header (P .head) = er ∙ read-header q R (P .head) d head in
-      let next : n ≡ P .rows .word R r (P .link) = en ∙ ap (λ (l : List ℕ). getD l (P .rows .from q + P .rows .width * r + P .link) 0) d ∙ K .get R r (P .link) hr link in
+      let next : n ≡ P .rows .word R r (P .link) = en ∙ ap (λ (l : List ℕ). getD l (place q (P .rows) r (P .link)) 0) d ∙ K .read R r (P .link) hr link in
       ap (λ (m : ℕ). setHeader (P .head) m R) (next ∙ ap (λ (x : ℕ). P .rows .word R x (P .link)) first))
 
   pub free-writes : {a : List ℕ} (v : ℕ) → v ≡ getD t (P .head) 0 → a ≡ blanked (P .rows .from q + P .rows .width * r) (P .link) v (P .rows .width) t

@@ -1,16 +1,15 @@
 -- What the steps on regions do to the lists of a table. Every list that a step does not alter computes back to what it was.
 use mathlib.Core.List.{List, [], _∷_, _++_}
-use mathlib.Core.Path.{_≡_, refl, sym}
+use mathlib.Core.Path.{_≡_, refl}
 use Prim.Native.Nat.{ℕ, _≤_, _<_}
 use borrow.Author.Tests.{eq-eqb, ne-eqb}
 use Rattle.table.specs.Kind as kind
 use Rattle.table.specs.Regions.{Regions}
-use Rattle.rules.specs.Rows.{lastOr, headOr, without, In, NotIn}
+use Rattle.rules.specs.Rows.{without, In, NotIn}
 use Rattle.rules.specs.Linked.{Linked, window, order, own}
 use Rattle.links.specs.Steps.{unlink, insert, ended}
 use Rattle.links.specs.Strands.{theWindow, theOrder, theOwn, unlinkIn, insertIn, pushIn}
-use Rattle.links.specs.Pools.{freeItems, freeClients, takeFrom, freeInto}
-use Rattle.links.proofs.Lists.{unlink-in, insert-linked, insert-last, insert-only, unlink-apart, insert-apart}
+use Rattle.links.proofs.Lists.{unlink-in, insert-last, insert-only, unlink-apart, insert-apart}
 
 -- its own list, by computation
 
@@ -42,7 +41,7 @@ insert-other c d r e l R n = simp (ne-eqb d c n)
 
 -- so each client's own list follows
 
-module _ (q : ℕ) (hq : q ≤ kind.none) (c : ℕ) (R : Regions) where
+module _ (q : ℕ) (hq : q ≤ kind.largest) (c : ℕ) (R : Regions) where
   pub own-unlinked : (r : ℕ) (rs : List ℕ) → In r rs → Linked q (own c R) rs → Linked q (own c (unlinkIn (theOwn c) r R)) (without r rs)
   own-unlinked r rs i k = rw (unlink-own c r R) (unlink-in q hq (own c R) r rs i k)
 

@@ -7,7 +7,7 @@ use lib.Dec.{eqb}
 use lib.ListN.{getD, set}
 use Rattle.table.specs.Kind as kind
 use Rattle.links.specs.declared.Places.{Places}
-use Rattle.links.specs.Strands.{Strand}
+use Rattle.links.specs.Strands.{place, Strand}
 
 -- the places of a strand in a table of q places
 abbrev pub places : ℕ → Strand → Places
@@ -17,16 +17,16 @@ places q s =
       width = s .rows .width;
       back = s .back;
       on = s .on;
-      first = s .ends .from q + s .ends .width * s .holder + s .first;
-      last = s .ends .from q + s .ends .width * s .holder + s .last;
+      first = place q (s .ends) (s .holder) (s .first);
+      last = place q (s .ends) (s .holder) (s .last);
     }
 
--- the place of word f of row r; where r is none, the end
+-- the place of word f of row r; that of a link, which for none is the end's
 abbrev pub wordAt : Places → ℕ → ℕ → ℕ
 wordAt p r f = p .rows + p .width * r + f
 
 abbrev pub linkAt : Places → ℕ → ℕ → ℕ → ℕ
-linkAt p f end r = cond (eqb kind.none r) end (wordAt p r f)
+linkAt p f end e = cond (eqb kind.none e) end (wordAt p e f)
 
 -- the links of row r
 abbrev pub backWord : Places → List ℕ → ℕ → ℕ

@@ -1,12 +1,11 @@
 -- The three kinds of doubly linked list in a table, by the rows that they link and the row that holds their ends; and the steps on regions.
 use mathlib.Core.Bool.{cond}
-use Prim.Native.Nat.{ℕ}
+use Prim.Native.Nat.{ℕ, _+_, _*_}
 use lib.Dec.{eqb}
 use Rattle.table.specs.Kind as kind
 use Rattle.table.specs.Regions.{Regions, upd}
-use Rattle.rules.specs.Linked.{Links}
 
--- rows of one kind: where they begin in a table of q places, how many they are, and the words of each; what they hold, and the regions with other words there
+-- rows of one kind: where they begin in a table of q places, how many they are, and how many words each has; their words, and the regions with others in their stead
 pub record Region : Type 0 where
   pub from : ℕ → ℕ
   pub number : ℕ → ℕ
@@ -44,6 +43,10 @@ clients =
       word = λ R. R .client;
       with = λ g R. record { header = R .header; item = R .item; client = g; count = R .count; bucket = R .bucket };
     }
+
+-- the place of word f of row r
+abbrev pub place : ℕ → Region → ℕ → ℕ → ℕ
+place q g r f = g .from q + g .width * r + f
 
 -- one word altered: the table's `setHeader`, `setItem` and `setClient`
 abbrev pub put : Region → ℕ → ℕ → ℕ → Regions → Regions

@@ -1,4 +1,5 @@
-// Doubly linked rows and free chains inside a table.
+// Doubly linked rows and free rows inside a table. One code, by the places of a list's words, serves the window, the clients' order and each client's own items.
+// The functions rest on the table's size (`Sized`) and on links that can be followed (`Link`), as those of a sound table can.
 ghost use mathlib.Core.Path.{_≡_};
 ghost use Prim.Native.Nat.{_+_, _<_, _≤_};
 ghost use lib.ListN.{length, getD, set};
@@ -10,7 +11,7 @@ ghost use Rattle.links.specs.Pools.{freeItems, freeClients, takeFrom, fr
 ghost use Rattle.links.specs.Places.{places, wordAt, linkAt, backWord, onWord, Ends, Row, Reach, turned, unlinked, inserted, pushed};
 use table::LinkedTable;
 
-// A doubly linked list, by the places of its words: where row 0 stands and the words of a row; which of them link back and on; the two ends.
+// A doubly linked list by its places: where row 0 stands, and how many words a row has; which of them link back and on; where the ends stand.
 struct Places {
     rows: usize,
     width: usize,
@@ -20,7 +21,7 @@ struct Places {
     last: usize,
 }
 
-// Turns the link f of row e, or the end where e is none.
+// The link f of row e becomes v; where e is none, the end does.
 fn put_link(t: &mut [u32], p: Places, f: usize, end: usize, e: u32, v: u32)
     requires { ⌜ end < length (now t) ⌝ }
     requires { ⌜ ((e ≡ kind.none → ⊥) → wordAt p e f < length (now t)) ⌝ }
@@ -82,7 +83,7 @@ fn push(t: &mut [u32], p: Places, r: u32)
     insert(t, p, r, e, LinkedTable::NONE);
 }
 
-// Where the window stands, the same in every table.
+// Where the window stands: in every table alike.
 fn window() -> Places
     ensures { λ p. ⌜ p ≡ places 0 theWindow ⌝ }
 {
@@ -242,7 +243,7 @@ pub fn take_item(t: &mut [u32], q: usize) -> u32
 pub fn free_item(t: &mut [u32], q: usize, r: u32)
     requires { ⌜ Sized q (now t) ⌝ }
     requires { ⌜ r < q ⌝ }
-    ensures { λ _. ⌜ Writes q (now (t .entry)) (now (t .exit)) (freeInto freeItems r) 7 ⌝ }
+    ensures { λ _. ⌜ Writes q (now (t .entry)) (now (t .exit)) (freeInto freeItems r) (kind.itemWords + 1) ⌝ }
     ensures { λ _. ⌜ Sized q (now (t .exit)) ⌝ }
 {
     let first = table::header(t, q, LinkedTable::FREE_ITEM_AT);
@@ -269,7 +270,7 @@ pub fn take_client(t: &mut [u32], q: usize) -> u32
 pub fn free_client(t: &mut [u32], q: usize, r: u32)
     requires { ⌜ Sized q (now t) ⌝ }
     requires { ⌜ r < q ⌝ }
-    ensures { λ _. ⌜ Writes q (now (t .entry)) (now (t .exit)) (freeInto freeClients r) 8 ⌝ }
+    ensures { λ _. ⌜ Writes q (now (t .entry)) (now (t .exit)) (freeInto freeClients r) (kind.clientWords + 1) ⌝ }
     ensures { λ _. ⌜ Sized q (now (t .exit)) ⌝ }
 {
     let first = table::header(t, q, LinkedTable::FREE_CLIENT_AT);

@@ -1,4 +1,5 @@
-use mathlib.Core.Path.{_≡_, refl, _∙_}
+-- The invariant: the first f words are as `blanked` has them. The measure is what is left of n. Assumes nothing.
+use mathlib.Core.Path.{_≡_, refl}
 use mathlib.Core.Logic.{⊎-elim}
 use borrow.Author.Tests.{eq-eqb, ne-eqb}
 use Prim.Native.Nat.{_≤_, _-_}

@@ -1,3 +1,4 @@
+-- The row blank, then the header, by the one law for both kinds of rows. Assumes nothing.
 use borrow.Author.Needs.{needs}
 use lib.Dec.{lit<}
 use Rattle.links.proofs.Strands.{item-stands}

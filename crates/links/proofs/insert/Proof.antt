@@ -1,3 +1,4 @@
+-- The row's own links first, then its neighbours'. Assumes nothing.
 use mathlib.Core.Path.{ap, _∙_}
 use lib.ListN.{length, length-set}
 use borrow.Author.Needs.{needs}

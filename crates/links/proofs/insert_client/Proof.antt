@@ -1,3 +1,4 @@
+-- The one code, by the order's lens. Assumes nothing.
 use borrow.Author.Needs.{needs}
 use Rattle.links.proofs.Strands.{order-lens, insert-asks, insert-does}
 use Rattle.links.proofs.insert_client.Statement.{statement}

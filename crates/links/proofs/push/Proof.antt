@@ -1,3 +1,4 @@
+-- Before none: there is no row to reach there. Assumes nothing.
 use mathlib.Core.Path.{refl}
 use borrow.Author.Needs.{needs}
 use Rattle.links.proofs.push.Statement.{statement}

@@ -1,3 +1,4 @@
+-- The one code, by the lens of the client's own items. Assumes nothing.
 use borrow.Author.Needs.{needs}
 use Rattle.links.proofs.Strands.{own-lens, push-asks, push-does}
 use Rattle.links.proofs.push_own.Statement.{statement}

@@ -1,3 +1,4 @@
+-- The test picks the place that `linkAt` picks. Assumes nothing.
 use mathlib.Core.Path.{sym}
 use native.Mathlib.Omega.{arith}
 use Prim.Native.Nat.{_<_}

@@ -1,3 +1,4 @@
+-- What was read of the header and of the first free row, by the one law for both kinds of rows. Assumes nothing.
 use borrow.Author.Needs.{needs}
 use lib.Dec.{lit<}
 use Rattle.links.proofs.Strands.{client-stands}

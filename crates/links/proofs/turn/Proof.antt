@@ -1,3 +1,4 @@
+-- Two links, one after the other: the first leaves the length as it was. Assumes nothing.
 use native.Mathlib.Omega.{arith}
 use borrow.Author.Needs.{needs}
 use Rattle.links.proofs.turn.Statement.{statement}

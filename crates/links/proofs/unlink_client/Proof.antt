@@ -1,3 +1,4 @@
+-- The one code, by the order's lens. Assumes nothing.
 use borrow.Author.Needs.{needs}
 use Rattle.links.proofs.Strands.{order-lens, unlink-asks, unlink-does}
 use Rattle.links.proofs.unlink_client.Statement.{statement}

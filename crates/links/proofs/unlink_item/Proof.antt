@@ -1,3 +1,4 @@
+-- The one code, by the window's lens. Assumes nothing.
 use borrow.Author.Needs.{needs}
 use Rattle.links.proofs.Strands.{window-lens, unlink-asks, unlink-does}
 use Rattle.links.proofs.unlink_item.Statement.{statement}

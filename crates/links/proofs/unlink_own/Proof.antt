@@ -1,3 +1,4 @@
+-- The one code, by the lens of the client's own items. Assumes nothing.
 use borrow.Author.Needs.{needs}
 use Rattle.links.proofs.Strands.{own-lens, unlink-asks, unlink-does}
 use Rattle.links.proofs.unlink_own.Statement.{statement}
