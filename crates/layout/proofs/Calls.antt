@@ -10,7 +10,7 @@ use borrow.Author.Tests.{lt-ltb, le-ltb, le-leb, lt-leb}
 use borrow.Rule.Slice.Shared.{bySize}
 use Rattle.table.specs.Kind as kind
 use Rattle.table.specs.Regions.{Sized}
-use Rattle.table.proofs.Range.{range-in}
+use Rattle.rules.proofs.Decide.{range-decides}
 use Rattle.rules.specs.Steps.{empty}
 use Rattle.rules.specs.Draw.{draw}
 use Rattle.rules.specs.Verdict.{layOutNumber, laidOut, fitting, carved, placed}
@@ -28,7 +28,7 @@ module _ (q : ℕ) (t : List ℕ) where
 
     pub sized-part : need ≤ length t → Sized q (take need t) × (1 ≤ q)
     sized-part h =
-        (record { small = range-in q r .1; long = length-take-le need t h ∙ is }, range-in q r .0)
+        (record { small = range-decides q .0 r .1; long = length-take-le need t h ∙ is }, range-decides q .0 r .0)
 
     pub laid-out : need ≤ length t → (l : List ℕ) → l ≡ draw (empty q) → (0 ≡ layOutNumber q (length t)) × (l ++ drop need t ≡ laidOut q t)
     unfolding laidOut

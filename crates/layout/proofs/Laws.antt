@@ -6,19 +6,19 @@ use Prim.Native.Nat.{ℕ, zero, suc, _+_, _*_, _-_, _≤_, _<_}
 use native.Mathlib.Nat.{mul-zero, mul-suc, add-comm, zero-add, not-suc-le-zero}
 use native.Mathlib.Omega.{arith}
 use lib.Dec.{eqb, ltb, lit<}
-use lib.ListN.{length, set, replicate, take, drop, getD, length-replicate, length-append, length-drop, replicate-append-replicate}
+use lib.ListN.{length, set, replicate, take, drop, getD, length-replicate, getD-replicate, length-append, length-drop, replicate-append-replicate}
 use lib.Seq.{drop-length, length-take-le, take-length, take-at, drop-at}
 use borrow.Author.Fill.{fill-more}
 use borrow.Rule.Slice.PartMut.{midOf, postOf, putMid}
 use borrow.Author.Tests.{eq-eqb, ne-eqb, lt-ltb, le-ltb, eqb-true, eqb-false, ltb-true, ltb-false}
 use Rattle.table.specs.Kind as kind
 use Rattle.table.specs.Regions.{Regions, upto, rows, words, Sized, Writes, setHeader, setItem, setClient}
-use Rattle.table.proofs.Fields.{each}
+use Rattle.table.proofs.Fields.{each, header-fields, item-fields, client-fields, count-fields}
 use Rattle.table.proofs.Draw.{set-item, set-client}
 use Rattle.table.proofs.Whole.{Agree, agree-words}
 use Rattle.table.proofs.Write.{then, write-header}
 use Rattle.rules.specs.Rows.{headOr}
-use Rattle.rules.specs.Steps.{empty, count-up, times}
+use Rattle.rules.specs.Steps.{empty, count-up}
 use Rattle.rules.specs.Draw.{after, afterIn, drawn, draw}
 use Rattle.layout.specs.Laid.{blank, nextFree, chained, headed}
 
@@ -151,12 +151,7 @@ after-up (suc n) from r h k = go (eqb from r) refl (after-up n (suc from) r)
         let s : suc from + n ≡ from + suc n = omega arith in
         rw s at (f (omega (arith, eqb-false from r e)) (omega arith))
 
-empty-chain : (n b : ℕ) → getD (times {A = List ℕ} n []) b [] ≡ []
-empty-chain zero b = refl
-empty-chain (suc n) zero = refl
-empty-chain (suc n) (suc b) = empty-chain n b
-
-no-next : (n r : ℕ) → 0 ≡ afterIn (times n []) r
+no-next : (n r : ℕ) → 0 ≡ afterIn (replicate n []) r
 no-next zero r = refl
 no-next (suc n) r = no-next n r
 
@@ -168,11 +163,11 @@ laid (suc n) h =
     let L : Regions = headed q (chained q q) in
     let D : Regions = drawn (empty q) in
     let link : (r : ℕ) → r < q → cond (ltb r q) (nextFree q r) 0 ≡ after 0 (count-up q 0) r = λ r l. rw (lt-ltb r q l) (sym (after-up q 0 r (omega arith) (omega arith) ∙ rw zero-add)) in
+    let zeros = each kind.zeros (λ z. L .header (kind.zerosAt + z) ≡ D .header (kind.zerosAt + z)) (refl, (refl, (refl, (refl, (refl, (refl, tt)))))) in
     agree-words (record {
-      header = each kind.headerWords (λ f. L .header f ≡ D .header f)
-          (refl, (refl, (refl, (refl, (refl, (refl, (refl, (refl, (refl, (refl, (refl, (refl, (refl, (refl, (refl, (refl, tt))))))))))))))));
-      item = λ r f l. each kind.itemWords (λ f. L .item r f ≡ D .item r f) (refl, (refl, (refl, (link r l, (refl, (refl, tt)))))) f;
-      client = λ r f l. each kind.clientWords (λ f. L .client r f ≡ D .client r f) (refl, (refl, (refl, (link r l, (refl, (refl, (no-next q r, tt))))))) f;
-      count = λ r f l. each kind.countWords (λ f. L .count r f ≡ D .count r f) (refl, (refl, tt)) f;
-      bucket = λ b l. ap (headOr kind.none) (sym (empty-chain q b));
+      header = header-fields (λ f. L .header f ≡ D .header f) refl refl refl refl refl refl refl refl refl refl zeros;
+      item = λ r f l. item-fields (λ f. L .item r f ≡ D .item r f) refl refl refl (link r l) refl refl f;
+      client = λ r f l. client-fields (λ f. L .client r f ≡ D .client r f) refl refl refl (link r l) refl refl (no-next q r) f;
+      count = λ r f l. count-fields (λ f. L .count r f ≡ D .count r f) refl refl f;
+      bucket = λ b l. ap (headOr kind.none) (sym (getD-replicate q b [] [] l));
     })

@@ -1,3 +1,4 @@
 -- Laws of lay-out and carve.
 pub mod Laws
 pub mod Calls
+pub mod After

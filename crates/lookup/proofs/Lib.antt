@@ -2,3 +2,4 @@
 pub mod Writers
 pub mod Walks
 pub mod Rooms
+pub mod Ready

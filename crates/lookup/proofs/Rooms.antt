@@ -1,6 +1,6 @@
 -- The check's loops: the tests of a row, the room that a chain leaves, and the chains one after the other.
 use mathlib.Core.List.{List, []}
-use mathlib.Core.Bool.{Bool, true, false, not, false≢true}
+use mathlib.Core.Bool.{Bool, true, false, not}
 use mathlib.Core.Path.{_≡_, refl, sym, ap, _∙_}
 use Prim.Native.Nat.{ℕ, suc, _+_, _-_, _≤_, _<_}
 use native.Mathlib.Nat.{zero-add}
@@ -8,37 +8,38 @@ use native.Mathlib.Numerals.{add-one}
 use native.Mathlib.Omega.{arith}
 use lib.Dec.{eqb}
 use lib.ListN.{length}
-use borrow.Author.Tests.{eq-eqb, eqb-true, eqb-false, not-true, not-false}
+use borrow.Author.Tests.{eq-eqb, eqb-true, eqb-false}
 use Rattle.table.specs.Kind as kind
 use Rattle.table.specs.Regions.{Sized, clientWord, bucketWord}
 use Rattle.rules.specs.Spread.{bucket}
 use Rattle.lookup.specs.Book.{idOf, nextOf, from, rowsOf, OwnIds, Ends}
-use Rattle.lookup.specs.Check.{chainsOf, Tells, Fits, Fitting, Left, Good, Counted}
+use Rattle.rules.specs.Tells.{Tells}
+use Rattle.rules.proofs.Tells.{tells-no, refuted, told}
+use Rattle.lookup.specs.Check.{chainsOf, Fits, Fitting, Left, Good, Counted}
 use Rattle.lookup.specs.Laws.Chains.{ends-by, step-back}
 use Rattle.lookup.specs.Laws.Buckets.{rows-more, rows-fewer}
-use Rattle.lookup.specs.Laws.Checking.{tells-not}
 use Rattle.lookup.specs.View.{Checked, checked}
 use Rattle.lookup.proofs.Walks.{at-none, step}
 
 -- fits
 
 module _ {q : ℕ} {t : List ℕ} {b r : ℕ} where
-  pub fits-out : q ≤ r → Tells (Fits q t b r) false
-  fits-out h = tells-not (λ f. omega (arith, f .low))
+  pub fits-out : q ≤ r → Tells false (Fits q t b r)
+  fits-out h = tells-no (λ f. omega (arith, f .low))
 
   module _ {n : ℕ} (is : n ≡ clientWord t q r kind.count) where
-    pub fits-idle : n ≡ 0 → Tells (Fits q t b r) false
-    fits-idle e = tells-not (λ f. f .waits (sym is ∙ e))
+    pub fits-idle : n ≡ 0 → Tells false (Fits q t b r)
+    fits-idle e = tells-no (λ f. f .waits (sym is ∙ e))
 
-    pub fits-home : {x c : ℕ} → r < q → (n ≡ 0 → ⊥) → x ≡ clientWord t q r kind.id → c ≡ bucket q x → Tells (Fits q t b r) (eqb c b)
+    pub fits-home : {x c : ℕ} → r < q → (n ≡ 0 → ⊥) → x ≡ clientWord t q r kind.id → c ≡ bucket q x → Tells (eqb c b) (Fits q t b r)
     fits-home {c = c} h m ex ec =
         record {
-          yes = λ e. record { low = h; waits = λ z. m (is ∙ z); home = ap (bucket q) (sym ex) ∙ sym ec ∙ eqb-true c b e };
-          no = λ f. eq-eqb c b (ec ∙ ap (bucket q) ex ∙ f .home);
+          right = λ e. record { low = h; waits = λ z. m (is ∙ z); home = ap (bucket q) (sym ex) ∙ sym ec ∙ eqb-true c b e };
+          passes = λ f. eq-eqb c b (ec ∙ ap (bucket q) ex ∙ f .home);
         }
 
-  pub fits-low : {ok : Bool} → Tells (Fits q t b r) ok → not ok ≡ false → r < q
-  fits-low f e = f .yes (not-false _ e) .low
+  pub fits-low : {ok : Bool} → Tells ok (Fits q t b r) → not ok ≡ false → r < q
+  fits-low f e = told f e .low
 
 -- room_after: what is left after the rows from `at` on is left after all
 
@@ -83,17 +84,17 @@ module _ {q : ℕ} {t : List ℕ} {b first room at left : ℕ} (m : Rooms q t b 
     pub rooms-none : at ≡ kind.none → Left q t b first room left
     rooms-none e = m .so left (left-none b left z e)
 
-    module _ {ok : Bool} (f : Tells (Fits q t b at) ok) where
+    module _ {ok : Bool} (f : Tells ok (Fits q t b at)) where
       pub rooms-wrong : (at ≡ kind.none → ⊥) → not ok ≡ true → Left q t b first room 0
       rooms-wrong n e =
           m .so 0
           (record {
             went = λ h. absurd (omega arith);
-            goes = λ g h. let s = step z (g .ends) n in absurd (false≢true (sym (not-true _ e) ∙ f .no ((rw (s .is) at (g .fits)) .0)));
+            goes = λ g h. let s = step z (g .ends) n in absurd (refuted f e ((rw (s .is) at (g .fits)) .0));
           })
 
       pub rooms-next : not ok ≡ false → (left ≡ 0 → ⊥) → {to : ℕ} → to ≡ clientWord t q at kind.nextInBucket → Rooms q t b first room to (left - 1)
-      rooms-next e l next = rw next (record { so = λ r w. m .so r (left-more b left r z l (f .yes (not-false _ e)) w) })
+      rooms-next e l next = rw next (record { so = λ r w. m .so r (left-more b left r z l (told f e) w) })
 
 -- check_lookup: the chains before bucket b are right, and leave that room
 pub record Checks (q : ℕ) (t : List ℕ) (n b room : ℕ) : Type 0 where
@@ -116,7 +117,7 @@ module _ {q : ℕ} {t : List ℕ} {n b room : ℕ} (z : Sized q t) (m : Checks q
   checks-end h =
       let e : b ≡ q = omega (arith, m .low) in
       let many : length (rowsOf q (chainsOf q t)) + room ≡ n + 1 = rw e at (m .many) in
-      checked z (record { yes = λ o. record { good = λ j l. m .good j (omega arith); many = omega (arith, many, eqb-true room 1 o) }; no = λ k. eq-eqb room 1 (omega (arith, many, k .many)) })
+      checked z (record { right = λ o. record { good = λ j l. m .good j (omega arith); many = omega (arith, many, eqb-true room 1 o) }; passes = λ k. eq-eqb room 1 (omega (arith, many, k .many)) })
 
   module _ (h : b < q) {first left : ℕ} (is : first ≡ bucketWord t q b) (w : Left q t b first room left) where
     -- the chain has room where all together have
@@ -127,17 +128,17 @@ module _ {q : ℕ} {t : List ℕ} {n b room : ℕ} (z : Sized q t) (m : Checks q
         omega (arith, most, rows-more b (chainsOf q t), k .many, m .many)
 
     pub checks-wrong : left ≡ 0 → Checked q t n false
-    checks-wrong e = checked z (tells-not (λ k. omega (arith, has-room k, (rw is at w) .goes (k .good b h .fitting) (has-room k))))
+    checks-wrong e = checked z (tells-no (λ k. omega (arith, has-room k, (rw is at w) .goes (k .good b h .fitting) (has-room k))))
 
-    module _ {ok : Bool} (f : Tells (OwnIds (idOf q t) (from q t first)) ok) where
+    module _ {ok : Bool} (f : Tells ok (OwnIds (idOf q t) (from q t first))) where
       pub checks-ids : not ok ≡ true → Checked q t n false
-      checks-ids e = checked z (tells-not (λ k. false≢true (sym (not-true _ e) ∙ f .no (rw is (k .good b h .ids)))))
+      checks-ids e = checked z (tells-no (λ k. refuted f e (rw is (k .good b h .ids))))
 
       pub checks-next : (left ≡ 0 → ⊥) → not ok ≡ false → Checks q t n (b + 1) left
       checks-next l e =
           let g = (rw is at w) .went (omega arith) in
           record {
             low = omega arith;
-            good = and-last (Good q t) b (m .good) (record { fitting = g .0; ids = rw is at (f .yes (not-false _ e)) });
+            good = and-last (Good q t) b (m .good) (record { fitting = g .0; ids = rw is at (told f e) });
             many = rw (add-one b) (omega (arith, g .1, rows-more b (chainsOf q t), m .many));
           }

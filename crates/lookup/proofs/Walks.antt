@@ -14,9 +14,9 @@ use Rattle.rules.specs.Linked.{Link}
 use Rattle.rules.specs.Draw.{before}
 use Rattle.rules.proofs.Rows.{other}
 use Rattle.lookup.specs.Book.{idOf, nextOf, from, OwnIds, Ends, Reaches, Found}
-use Rattle.lookup.specs.Check.{Tells}
+use Rattle.rules.specs.Tells.{Tells}
 use Rattle.lookup.specs.Laws.Chains.{Step, chain-once, follow-is, step-on}
-use Rattle.lookup.specs.Laws.Checking.{tells-not}
+use Rattle.rules.proofs.Tells.{tells-no}
 use Rattle.lookup.specs.Laws.Filing.{own-more, found-none, found-here, found-later}
 
 pub at-none : {q : ℕ} {t : List ℕ} {at : ℕ} → Sized q t → at ≡ kind.none → from q t at ≡ []
@@ -102,8 +102,8 @@ pub owns-first : {q : ℕ} {t : List ℕ} {first : ℕ} → Ends q (nextOf q t) 
 owns-first e = record { ends = e; all = λ u. u; part = λ u. u }
 
 module _ {q : ℕ} {t : List ℕ} {first at : ℕ} (z : Sized q t) (w : Owns q t first at) where
-  pub owns-none : at ≡ kind.none → Tells (OwnIds (idOf q t) (from q t first)) true
-  owns-none e = record { yes = λ o. w .all (rw (at-none z e) (λ r s i. absurd i)); no = λ u. refl }
+  pub owns-none : at ≡ kind.none → Tells true (OwnIds (idOf q t) (from q t first))
+  owns-none e = record { right = λ o. w .all (rw (at-none z e) (λ r s i. absurd i)); passes = λ u. refl }
 
   module _ (n : at ≡ kind.none → ⊥) {v to y : ℕ} (is : v ≡ clientWord t q at kind.id) (next : to ≡ clientWord t q at kind.nextInBucket) (f : Found (idOf q t) (from q t to) v y) where
     found : Found (idOf q t) (from q t (nextOf q t at)) (idOf q t at) y
@@ -119,11 +119,11 @@ module _ {q : ℕ} {t : List ℕ} {first at : ℕ} (z : Sized q t) (w : Owns q t
           part = λ u a b i j k. let p : OwnIds (idOf q t) (at ∷ from q t (nextOf q t at)) = rw (s .is) at (w .part u) in p a b (inr i) (inr j) k;
         })
 
-    pub owns-not : (y ≡ kind.none → ⊥) → Tells (OwnIds (idOf q t) (from q t first)) false
+    pub owns-not : (y ≡ kind.none → ⊥) → Tells false (OwnIds (idOf q t) (from q t first))
     owns-not m =
         let s = step z (w .ends) n in
         let d : Distinct (at ∷ from q t (nextOf q t at)) = rw (s .is) at (chain-once q (omega (arith, z .small)) (nextOf q t) at (from q t at) (w .ends .below) (w .ends .chain)) in
-        tells-not
+        tells-no
         (λ u.
         let p : OwnIds (idOf q t) (at ∷ from q t (nextOf q t at)) = rw (s .is) at (w .part u) in
         other at y (from q t (nextOf q t at)) (d .0) (found .row m .0) (p at y (inl refl) (inr (found .row m .0)) (sym (found .row m .1))))

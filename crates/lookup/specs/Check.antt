@@ -1,6 +1,5 @@
 -- What the lookup's part of the soundness check finds: every chain is right, and together they hold as many rows as there are clients.
 use mathlib.Core.List.{List}
-use mathlib.Core.Bool.{Bool, true}
 use mathlib.Core.Path.{_≡_}
 use Prim.Native.Nat.{ℕ, _+_, _<_}
 use lib.ListN.{length}
@@ -24,11 +23,6 @@ pub record Waits (q : ℕ) (t cs : List ℕ) : Type 0 where
   pub below : Below q cs
   pub counted : (r : ℕ) → In r cs → countOf q t r ≡ 0 → ⊥
   pub others : (r : ℕ) → r < q → (countOf q t r ≡ 0 → ⊥) → In r cs
-
--- an answer that tells whether it is so
-pub record Tells (so : Type 0) (ok : Bool) : Type 0 where
-  pub yes : ok ≡ true → so
-  pub no : so → ok ≡ true
 
 module _ (q : ℕ) (t : List ℕ) where
   -- a row that may stand in bucket b: it waits, and b is its id's

@@ -15,9 +15,10 @@ use Rattle.table.proofs.Write.{draws, read-client, read-bucket}
 use Rattle.rules.specs.Rows.{In, NotIn, Distinct, without}
 use Rattle.rules.specs.Linked.{Links, Linked, Chain}
 use Rattle.rules.specs.Spread.{bucket}
+use Rattle.rules.specs.Tells.{Tells}
 use Rattle.rules.proofs.Rows.{Within, other, in-or-not}
 use Rattle.lookup.specs.Book.{Book, book, bookOf, idOf, nextOf, from, rowsOf, OwnIds, Filed, Ends, Reaches, Found, enterRow, leaveRow, put, cut, withId}
-use Rattle.lookup.specs.Check.{chainsOf, countOf, Waits, Tells, Counted}
+use Rattle.lookup.specs.Check.{chainsOf, countOf, Waits, Counted}
 use Rattle.lookup.specs.Laws.Filing.{filed-members, filed-agree, filed-none, found-kept, chain-ends, chain-is, enter-filed, leave-filed}
 use Rattle.lookup.specs.Laws.Checking.{check-sound, check-complete}
 
@@ -138,9 +139,9 @@ pub waits-linked : {q : ℕ} {L : Links} {cs : List ℕ} (t : List ℕ) → Link
 waits-linked {cs = cs} t k some zero =
     record { distinct = k .distinct; below = k .below; counted = some; others = λ r l n. ⊎-elim (λ i. i) (λ m. absurd (n (zero r l m))) (in-or-not r cs) }
 
-pub checked : {q : ℕ} {t : List ℕ} {n : ℕ} {ok : Bool} → Sized q t → Tells (Counted q t n) ok → Checked q t n ok
+pub checked : {q : ℕ} {t : List ℕ} {n : ℕ} {ok : Bool} → Sized q t → Tells ok (Counted q t n) → Checked q t n ok
 checked z f =
     record {
-      right = λ cs w l o. record { filed = check-sound (omega (arith, z .small)) w (rw l (f .yes o)) };
-      passes = λ cs C w l m. f .no (rw (← l) (check-complete (omega (arith, z .small)) w (m .filed)));
+      right = λ cs w l o. record { filed = check-sound (omega (arith, z .small)) w (rw l (f .right o)) };
+      passes = λ cs C w l m. f .passes (rw (← l) (check-complete (omega (arith, z .small)) w (m .filed)));
     }

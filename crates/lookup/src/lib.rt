@@ -10,7 +10,8 @@ ghost use Rattle.rules.specs.Linked.{Link};
 ghost use Rattle.rules.specs.Spread.{IsSpread};
 ghost use Rattle.rules.specs.Draw.{before};
 ghost use Rattle.lookup.specs.Book.{idOf, nextOf, from, OwnIds, Ends, Reaches, Found, enterRow, hook, leaveAt, leaveRow};
-ghost use Rattle.lookup.specs.Check.{Tells, Fits, Left};
+ghost use Rattle.rules.specs.Tells.{Tells};
+ghost use Rattle.lookup.specs.Check.{Fits, Left};
 ghost use Rattle.lookup.specs.View.{Keeps, Kept, Checked};
 use table::LinkedTable;
 
@@ -119,7 +120,7 @@ pub fn leave(t: &mut [u32], q: usize, s: &[u32; 1024], r: u32)
 fn fits(t: &[u32], q: usize, s: &[u32; 1024], b: usize, r: u32) -> bool
     requires { ⌜ Sized q (now t) ⌝ }
     requires { ⌜ IsSpread (now s) ⌝ }
-    ensures { λ ok. ⌜ Tells (Fits q (now (t .entry)) b r) ok ⌝ }
+    ensures { λ ok. ⌜ Tells ok (Fits q (now (t .entry)) b r) ⌝ }
 {
     if r as usize >= q {
         return false;
@@ -156,7 +157,7 @@ fn room_after(t: &[u32], q: usize, s: &[u32; 1024], b: usize, first: u32, room: 
 fn own_ids(t: &[u32], q: usize, first: u32) -> bool
     requires { ⌜ Sized q (now t) ⌝ }
     requires { ⌜ Ends q (nextOf q (now t)) first ⌝ }
-    ensures { λ ok. ⌜ Tells (OwnIds (idOf q (now (t .entry))) (from q (now (t .entry)) first)) ok ⌝ }
+    ensures { λ ok. ⌜ Tells ok (OwnIds (idOf q (now (t .entry))) (from q (now (t .entry)) first)) ⌝ }
 {
     let mut at = first;
     while at != LinkedTable::NONE {

@@ -1,4 +1,25 @@
--- Laws of the definitions.
+-- Laws of the definitions, from lists up: of rows and columns, of right pictures and their words, and of the steps on pictures.
+pub mod Choose
 pub mod Rows
+pub mod Put
 pub mod Linked
+pub mod Columns
+pub mod Look
+pub mod Right
+pub mod Held
+pub mod Shown
+pub mod Decide
+pub mod Tells
+pub mod Sound
+pub mod Empty
+pub mod Parts
+pub mod Clients
+pub mod Plain
+pub mod Settle
+pub mod Moves
+pub mod Leaving
+pub mod Steps
+pub mod Moved
+pub mod Written
+pub mod Ready
 pub mod Cases

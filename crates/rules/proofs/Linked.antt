@@ -1,10 +1,10 @@
 -- Laws of rows linked both ways: the ends, and the columns that a list fixes.
 use mathlib.Core.List.{List, [], _∷_}
-use mathlib.Core.Path.{_≡_, refl, sym, _∙_}
-use mathlib.Core.Logic.{⊎-elim, inl, inr}
+use mathlib.Core.Path.{_≡_}
+use mathlib.Core.Logic.{⊎-elim}
 use Prim.Native.Nat.{ℕ}
 use Rattle.table.specs.Kind as kind
-use Rattle.rules.specs.Rows.{headOr, lastOr, In, Below}
+use Rattle.rules.specs.Rows.{headOr, lastOr, Below}
 use Rattle.rules.specs.Linked.{Link, Run}
 use Rattle.rules.proofs.Rows.{head-in, last-in, in-below}
 

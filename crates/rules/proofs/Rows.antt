@@ -1,17 +1,18 @@
 -- Laws of lists of rows, said once for every layer.
 use mathlib.Core.List.{List, [], _∷_, _++_, map}
-use mathlib.Core.Bool.{Bool, true, false, cond}
-use mathlib.Core.Path.{_≡_, refl, sym, ap, ap₂, _∙_, subst}
+use mathlib.Core.Bool.{Bool, true, false}
+use mathlib.Core.Path.{_≡_, refl, sym, ap, ap₂, subst}
 use mathlib.Core.Logic.{_⊎_, ⊎-elim, inl, inr}
 use Prim.Native.Nat.{ℕ, zero, suc, _≤_, _<_}
 use native.Mathlib.Nat.{not-suc-le-zero, le-of-suc-le-suc}
 use native.Mathlib.Omega.{arith}
 use lib.Dec.{eqb}
 use lib.ListN.{length}
-use borrow.Author.Tests.{eqb-true, eqb-false, eq-eqb, ne-eqb}
+use borrow.Author.Tests.{eqb-true, eqb-false, ne-eqb}
 use Rattle.table.specs.Regions.{upto}
 use Rattle.table.proofs.Draw.{length-upto}
-use Rattle.rules.specs.Rows.{headOr, lastOr, without, In, NotIn, All, Distinct, Below, Once}
+use Rattle.rules.specs.Rows.{headOr, lastOr, rest, without, In, NotIn, All, Distinct, Below, Once, Rising}
+use Rattle.rules.proofs.Put.{Put, here, put-map, put-second, all-puts, put-in, take-in, put-notin, take-notin, put-distinct, take-distinct, put-below, take-below, put-length, without-put}
 
 -- in and not in
 
@@ -61,13 +62,14 @@ notin-both x (y ∷ xs) ys n m = (n .0, notin-both x xs ys (n .1) m)
 
 -- a row put in, or dropped, between two parts
 
+between : (r : ℕ) (xs ys : List ℕ) → Put r (xs ++ ys) (xs ++ r ∷ ys)
+between r xs ys = put-second xs here
+
 pub notin-drop : (x r : ℕ) (xs ys : List ℕ) → NotIn x (xs ++ r ∷ ys) → NotIn x (xs ++ ys)
-notin-drop x r [] ys h = h .1
-notin-drop x r (y ∷ xs) ys h = (h .0, notin-drop x r xs ys (h .1))
+notin-drop x r xs ys h = take-notin x (between r xs ys) h .1
 
 pub notin-put : (x r : ℕ) (xs ys : List ℕ) → (x ≡ r → ⊥) → NotIn x (xs ++ ys) → NotIn x (xs ++ r ∷ ys)
-notin-put x r [] ys n h = (n, h)
-notin-put x r (y ∷ xs) ys n h = (h .0, notin-put x r xs ys n (h .1))
+notin-put x r xs ys n h = put-notin x (between r xs ys) n h
 
 -- distinct rows
 
@@ -80,12 +82,10 @@ distinct-right [] ys d = d
 distinct-right (x ∷ xs) ys d = distinct-right xs ys (d .1)
 
 pub distinct-drop : (r : ℕ) (xs ys : List ℕ) → Distinct (xs ++ r ∷ ys) → Distinct (xs ++ ys)
-distinct-drop r [] ys d = d .1
-distinct-drop r (x ∷ xs) ys d = (notin-drop x r xs ys (d .0), distinct-drop r xs ys (d .1))
+distinct-drop r xs ys d = take-distinct (between r xs ys) d .1
 
 pub distinct-put : (r : ℕ) (xs ys : List ℕ) → NotIn r (xs ++ ys) → Distinct (xs ++ ys) → Distinct (xs ++ r ∷ ys)
-distinct-put r [] ys n d = (n, d)
-distinct-put r (x ∷ xs) ys n d = (notin-put x r xs ys (λ e. n .0 (sym e)) (d .0), distinct-put r xs ys (n .1) (d .1))
+distinct-put r xs ys n d = put-distinct (between r xs ys) n d
 
 -- two lists with no row in common
 pub distinct-both : (xs ys : List ℕ) → Distinct xs → Distinct ys → ((x : ℕ) → In x xs → In x ys → ⊥) → Distinct (xs ++ ys)
@@ -113,12 +113,10 @@ below-right q [] ys b = b
 below-right q (x ∷ xs) ys b = below-right q xs ys (b .1)
 
 pub below-drop : (q r : ℕ) (xs ys : List ℕ) → Below q (xs ++ r ∷ ys) → Below q (xs ++ ys)
-below-drop q r [] ys b = b .1
-below-drop q r (x ∷ xs) ys b = (b .0, below-drop q r xs ys (b .1))
+below-drop q r xs ys b = take-below q (between r xs ys) b .1
 
 pub below-put : (q r : ℕ) (xs ys : List ℕ) → r < q → Below q (xs ++ ys) → Below q (xs ++ r ∷ ys)
-below-put q r [] ys h b = (h, b)
-below-put q r (x ∷ xs) ys h b = (b .0, below-put q r xs ys h (b .1))
+below-put q r xs ys h b = put-below q (between r xs ys) h b
 
 pub in-below : (q : ℕ) (xs : List ℕ) → Below q xs → (x : ℕ) → In x xs → x < q
 in-below q [] b x i = absurd i
@@ -144,6 +142,10 @@ head-in n [] = inl refl
 head-in n (x ∷ xs) = inr (inl refl)
 
 -- the ends of a list that is not empty, whatever stands for an empty one's
+pub head-some : (n : ℕ) (xs : List ℕ) → 1 ≤ length xs → In (headOr n xs) xs
+head-some n [] h = absurd (not-suc-le-zero h)
+head-some n (x ∷ xs) h = inl refl
+
 pub head-any : (a b : ℕ) (xs : List ℕ) → 1 ≤ length xs → headOr a xs ≡ headOr b xs
 head-any a b [] h = absurd (not-suc-le-zero h)
 head-any a b (x ∷ xs) h = refl
@@ -152,50 +154,41 @@ pub last-any : (a b : ℕ) (xs : List ℕ) → 1 ≤ length xs → lastOr a xs �
 last-any a b [] h = absurd (not-suc-le-zero h)
 last-any a b (x ∷ xs) h = refl
 
+pub head-rest : (n : ℕ) (xs : List ℕ) → 1 ≤ length xs → xs ≡ headOr n xs ∷ rest xs
+head-rest n [] h = absurd (not-suc-le-zero h)
+head-rest n (x ∷ xs) h = refl
+
 -- a list without one of its rows
-
-pub in-without : (r z : ℕ) (xs : List ℕ) → In z (without r xs) → In z xs
-in-without r z [] i = i
-in-without r z (x ∷ xs) i = go (eqb x r) (in-without r z xs) i
-  where
-    go : (b : Bool) → (In z (without r xs) → In z xs) → In z (cond b xs (x ∷ without r xs)) → In z (x ∷ xs)
-    go true f j = inr j
-    go false f j = ⊎-elim (λ e. inl e) (λ k. inr (f k)) j
-
-pub notin-without : (r z : ℕ) (xs : List ℕ) → NotIn z xs → NotIn z (without r xs)
-notin-without r z xs n = notin z (without r xs) (λ i. not-both z xs (in-without r z xs i) n)
-
-pub without-in : (r z : ℕ) (xs : List ℕ) → (z ≡ r → ⊥) → In z xs → In z (without r xs)
-without-in r z [] n i = i
-without-in r z (x ∷ xs) n i = go (eqb x r) refl (without-in r z xs n)
-  where
-    go : (b : Bool) → eqb x r ≡ b → (In z xs → In z (without r xs)) → In z (cond b xs (x ∷ without r xs))
-    go true e f = ⊎-elim (λ k. absurd (n (k ∙ eqb-true x r e))) (λ j. j) i
-    go false e f = ⊎-elim (λ k. inl k) (λ j. inr (f j)) i
-
-pub without-distinct : (r : ℕ) (xs : List ℕ) → Distinct xs → Distinct (without r xs)
-without-distinct r [] d = tt
-without-distinct r (x ∷ xs) d = go (eqb x r) (without-distinct r xs (d .1))
-  where
-    go : (b : Bool) → Distinct (without r xs) → Distinct (cond b xs (x ∷ without r xs))
-    go true w = d .1
-    go false w = (notin-without r x xs (d .0), w)
-
-pub without-below : (q r : ℕ) (xs : List ℕ) → Below q xs → Below q (without r xs)
-without-below q r xs b = below-in q (without r xs) (λ x i. in-below q xs b x (in-without r x xs i))
-
-pub without-length : (r : ℕ) (xs : List ℕ) → In r xs → length xs ≡ suc (length (without r xs))
-without-length r [] i = absurd i
-without-length r (x ∷ xs) i = go (eqb x r) refl (without-length r xs)
-  where
-    go : (b : Bool) → eqb x r ≡ b → (In r xs → length xs ≡ suc (length (without r xs))) → length (x ∷ xs) ≡ suc (length (cond b xs (x ∷ without r xs)))
-    go true e w = refl
-    go false e w = ap suc (w (⊎-elim (λ z. absurd (eqb-false x r e (sym z))) (λ j. j) i))
 
 -- nothing to take out
 pub without-absent : (r : ℕ) (xs : List ℕ) → NotIn r xs → without r xs ≡ xs
 without-absent r [] n = refl
 without-absent r (x ∷ xs) n = rw (ne-eqb x r (λ e. n .0 (sym e))) (ap (λ (l : List ℕ). x ∷ l) (without-absent r xs (n .1)))
+
+without-is : (r : ℕ) (xs : List ℕ) → Put r (without r xs) xs ⊎ (without r xs ≡ xs)
+without-is r xs = ⊎-elim (λ i. inl (without-put r xs i)) (λ n. inr (without-absent r xs n)) (in-or-not r xs)
+
+pub in-without : (r z : ℕ) (xs : List ℕ) → In z (without r xs) → In z xs
+in-without r z xs i = ⊎-elim (λ p. put-in z p (inr i)) (λ e. rw e at i) (without-is r xs)
+
+pub notin-without : (r z : ℕ) (xs : List ℕ) → NotIn z xs → NotIn z (without r xs)
+notin-without r z xs n = notin z (without r xs) (λ i. not-both z xs (in-without r z xs i) n)
+
+pub without-in : (r z : ℕ) (xs : List ℕ) → (z ≡ r → ⊥) → In z xs → In z (without r xs)
+without-in r z xs n i = ⊎-elim (λ p. ⊎-elim (λ e. absurd (n e)) (λ j. j) (take-in z p i)) (λ e. rw e i) (without-is r xs)
+
+pub without-distinct : (r : ℕ) (xs : List ℕ) → Distinct xs → Distinct (without r xs)
+without-distinct r xs d = ⊎-elim (λ p. take-distinct p d .1) (λ e. rw e d) (without-is r xs)
+
+pub without-below : (q r : ℕ) (xs : List ℕ) → Below q xs → Below q (without r xs)
+without-below q r xs b = below-in q (without r xs) (λ x i. in-below q xs b x (in-without r x xs i))
+
+pub without-length : (r : ℕ) (xs : List ℕ) → In r xs → length xs ≡ suc (length (without r xs))
+without-length r xs i = put-length (without-put r xs i)
+
+-- taken out, it is there no more
+pub gone : (r : ℕ) (rs : List ℕ) → In r rs → Distinct rs → NotIn r (without r rs)
+gone r rs i d = take-distinct (without-put r rs i) d .0
 
 -- where a row stands in a list
 pub record Split (r : ℕ) (rs : List ℕ) : Type 0 where
@@ -213,13 +206,6 @@ split-at r (x ∷ xs) h = go (eqb x r) refl (λ i. split-at r xs i)
     go false e f =
         let s = f (⊎-elim (λ z. absurd (eqb-false x r e (sym z))) (λ z. z) h) in
         record { left = x ∷ s .left; right = s .right; is = ap (λ (l : List ℕ). x ∷ l) (s .is); rest = rw e (ap (λ (l : List ℕ). x ∷ l) (s .rest)) }
-
--- taken out, it is there no more
-pub gone : (r : ℕ) (rs : List ℕ) → In r rs → Distinct rs → NotIn r (without r rs)
-gone r rs h d =
-    let s = split-at r rs h in
-    let m : Distinct (s .left ++ r ∷ s .right) = rw (s .is) at d in
-    rw (s .rest) (notin-both r (s .left) (s .right) (meets r (s .left) (s .right) m) (distinct-right (s .left) (r ∷ s .right) m .0))
 
 -- the pigeonhole: distinct rows out of a list are no more than it has; as many as it has, they are all of them
 
@@ -271,6 +257,9 @@ pub in-all : (F : ℕ → Type 0) (xs : List ℕ) → ((r : ℕ) → In r xs →
 in-all F [] h = tt
 in-all F (x ∷ xs) h = (h x (inl refl), in-all F xs (λ r i. h r (inr i)))
 
+pub notin-all : {A : Type 0} (key : A → ℕ) (r : ℕ) (xs : List A) → NotIn r (map key xs) → All (λ x. r ≡ key x → ⊥) xs
+notin-all key r xs n = all-puts (λ x. r ≡ key x → ⊥) xs (λ x ys p. take-notin r (put-map key p) n .0)
+
 pub all-snoc : {A : Type 0} (F : A → Type 0) (xs : List A) (x : A) → All F xs → F x → All F (xs ++ x ∷ [])
 all-snoc F [] x a f = (f, tt)
 all-snoc F (y ∷ xs) x a f = (a .0, all-snoc F xs x (a .1) f)
@@ -278,3 +267,16 @@ all-snoc F (y ∷ xs) x a f = (a .0, all-snoc F xs x (a .1) f)
 pub map-snoc : {A B : Type 0} (f : A → B) (xs : List A) (x : A) → map f (xs ++ x ∷ []) ≡ map f xs ++ (f x ∷ [])
 map-snoc f [] x = refl
 map-snoc f (y ∷ xs) x = ap (λ (l : List _). f y ∷ l) (map-snoc f xs x)
+
+pub map-so : {A B : Type 0} (f g : A → B) (xs : List A) → All (λ x. f x ≡ g x) xs → map f xs ≡ map g xs
+map-so f g [] a = refl
+map-so f g (x ∷ xs) a = ap₂ _∷_ (a .0) (map-so f g xs (a .1))
+
+pub rebuild : {A : Type 0} (key : A → ℕ) (make : ℕ → A) (xs : List A) → All (λ x. make (key x) ≡ x) xs → map make (map key xs) ≡ xs
+rebuild key make [] a = refl
+rebuild key make (x ∷ xs) a = ap₂ _∷_ (a .0) (rebuild key make xs (a .1))
+
+-- of numbers that never fall none is below the first bound
+pub rising-least : (m : ℕ) (f : ℕ → ℕ) (xs : List ℕ) → Rising m (map f xs) → (r : ℕ) → In r xs → m ≤ f r
+rising-least m f [] u r i = absurd i
+rising-least m f (x ∷ xs) u r i = ⊎-elim (λ e. rw e (u .0)) (λ j. omega (arith, u .0, rising-least (f x) f xs (u .1) r j)) i

@@ -1,6 +1,7 @@
 -- What the documents say, as definitions, in the order in which to read them.
 pub mod History
 pub mod Rows
+pub mod Tells
 pub mod Spread
 pub mod Picture
 pub mod Steps
@@ -9,5 +10,6 @@ pub mod Draw
 pub mod Linked
 pub mod Sound
 pub mod Parts
+pub mod Ready
 pub mod Verdict
 pub mod Cases

@@ -3,26 +3,22 @@ use mathlib.Core.List.{List, [], _∷_, _++_, map}
 use mathlib.Core.Bool.{Bool, cond}
 use Prim.Native.Nat.{ℕ, zero, suc}
 use lib.Dec.{eqb, leb}
-use lib.ListN.{length}
+use lib.ListN.{length, replicate}
 use Rattle.table.specs.Kind as kind
 use Rattle.rules.specs.Rows.{headOr, lastOr, rest, without, has}
 use Rattle.rules.specs.Spread.{bucket}
 use Rattle.rules.specs.History.{Request, Choice, joined, evicted, turned, choice}
 use Rattle.rules.specs.Picture.{Item, Client, Picture, item, client, clientId, clientRows, countOf, idOf, rowOf, plain}
 
--- 0, 1, .. one below n, and n times the same
+-- n numbers, counted up from one
 abbrev pub count-up : ℕ → ℕ → List ℕ
 count-up zero from = []
 count-up (suc n) from = from ∷ count-up n (suc from)
 
-abbrev pub times : {A : Type 0} → ℕ → A → List A
-times zero x = []
-times (suc n) x = x ∷ times n x
-
 -- after a lay-out: nobody waits, every row is free, each bucket empty
 abbrev pub empty : ℕ → Picture
 empty q =
-    record { size = q; window = []; clients = []; freeItems = count-up q 0; freeClients = count-up q 0; chains = times q [] }
+    record { size = q; window = []; clients = []; freeItems = count-up q 0; freeClients = count-up q 0; chains = replicate q [] }
 
 -- the clients but the one in row r
 abbrev pub withoutClient : ℕ → List Client → List Client

@@ -1,5 +1,4 @@
 -- What the proofs of this crate and of those above it share.
-pub mod Range
 pub mod Fields
 pub mod Draw
 pub mod Whole

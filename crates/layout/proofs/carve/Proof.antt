@@ -1,7 +1,7 @@
 -- Each return is one case of `fitting`. Assumes nothing.
 use mathlib.Core.Path.{sym, _∙_}
 use borrow.Author.Tests.{not-true, not-false}
-use Rattle.table.proofs.Range.{range-in}
+use Rattle.rules.proofs.Decide.{range-decides}
 use Rattle.layout.proofs.Calls.{carve-range, carve-short, carve-part}
 use borrow.Author.Needs.{needs}
 use Rattle.layout.proofs.carve.Statement.{statement}
@@ -29,7 +29,7 @@ returns-2 c =
     carve-short (a .pool .now) (a .pool .ptr) (a .start) (a .q) (sym (i .in-range .ensures) ∙ not-false _ (c .before .before .if1 .left)) (search needs)
 
 size-requires : tie.Need-size-requires
-size-requires c κs = range-in _ (sym (c .before .before .in-range .ensures) ∙ not-false _ (c .before .if1 .left)) .1
+size-requires c κs = range-decides _ .0 (sym (c .before .before .in-range .ensures) ∙ not-false _ (c .before .if1 .left)) .1
 
 sub-if3 : tie.Need-sub-if3
 sub-if3 c = search needs

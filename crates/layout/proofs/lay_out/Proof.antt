@@ -2,7 +2,7 @@
 use mathlib.Core.Path.{sym, _∙_}
 use lib.Seq.{length-take-le}
 use borrow.Author.Tests.{not-true, not-false}
-use Rattle.table.proofs.Range.{range-in}
+use Rattle.rules.proofs.Decide.{range-decides}
 use Rattle.layout.proofs.Calls.{out-of-range, too-short, sized-part, laid-out}
 use borrow.Author.Needs.{needs}
 use Rattle.layout.proofs.lay_out.Statement.{statement}
@@ -15,7 +15,7 @@ returns : tie.Need-returns
 returns c = out-of-range _ _ (sym (c .before .in-range .ensures) ∙ not-true _ (c .if1 .taken))
 
 size-requires : tie.Need-size-requires
-size-requires c κs = range-in _ (sym (c .before .in-range .ensures) ∙ not-false _ (c .if1 .left)) .1
+size-requires c κs = range-decides _ .0 (sym (c .before .in-range .ensures) ∙ not-false _ (c .if1 .left)) .1
 
 returns-2 : tie.Need-returns-2
 returns-2 c =

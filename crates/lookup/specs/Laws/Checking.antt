@@ -1,6 +1,5 @@
 -- What the check finds is so exactly where the clients are filed.
 use mathlib.Core.List.{List}
-use mathlib.Core.Bool.{false, false≢true}
 use mathlib.Core.Path.{_≡_}
 use Prim.Native.Nat.{ℕ, _≤_, _<_}
 use native.Mathlib.Omega.{arith}
@@ -12,12 +11,9 @@ use Rattle.rules.specs.Linked.{Chain}
 use Rattle.rules.specs.Spread.{bucket}
 use Rattle.rules.proofs.Rows.{in-below, Within, fewer, all-there, all-in, in-all}
 use Rattle.lookup.specs.Book.{bookOf, idOf, nextOf, rowsOf, Filed}
-use Rattle.lookup.specs.Check.{chainsOf, Waits, Tells, Fits, Good, Counted}
+use Rattle.lookup.specs.Check.{chainsOf, Waits, Fits, Good, Counted}
 use Rattle.lookup.specs.Laws.Buckets.{rows-place, place-rows, rows-same}
 use Rattle.lookup.specs.Laws.Filing.{bucket-below, apart-by, nobody-in, home-in, chain-is, chain-ends}
-
-pub tells-not : {so : Type 0} → (so → ⊥) → Tells so false
-tells-not n = record { yes = λ e. absurd (false≢true e); no = λ s. absurd (n s) }
 
 module _ {q : ℕ} (hq : q ≤ kind.none) {t cs : List ℕ} (w : Waits q t cs) where
   -- as many rows as there are clients, all clients, nobody twice: so all of them

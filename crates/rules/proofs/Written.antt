@@ -1,0 +1,39 @@
+-- From the code's promise to a call's: a writer on the drawing of a picture leaves the drawing of the next; and a call's promise by function is that by relation.
+use mathlib.Core.List.{List}
+use mathlib.Core.Bool.{true}
+use mathlib.Core.Path.{_≡_, sym, ap, _∙_, subst}
+use Prim.Native.Nat.{ℕ}
+use Rattle.table.specs.Regions.{Regions, words, Writes}
+use Rattle.table.proofs.Whole.{agree-words}
+use Rattle.rules.specs.Picture.{Picture}
+use Rattle.rules.specs.Draw.{drawn, draw}
+use Rattle.rules.specs.Sound.{picture, sound, Right, Holds, Shows}
+use Rattle.rules.proofs.Held.{holds-agree}
+use Rattle.rules.proofs.Sound.{draw-shows, shows-draw, picture-draw, shows-picture, draw-sound, sound-right, sound-shows}
+
+pub written : {q : ℕ} {t u : List ℕ} {f : Regions → Regions} {k : ℕ} (P Q : Picture) → Right Q → P .size ≡ q → Q .size ≡ q → t ≡ draw P
+    → Writes q t u f k → Holds (f (drawn P)) Q → u ≡ draw Q
+unfolding draw
+written {f = f} P Q v p s e w h =
+    w .drawn (drawn P) (e ∙ ap (λ (n : ℕ). words n (drawn P)) p)
+    ∙ ap (λ (n : ℕ). words n (f (drawn P))) (sym s)
+    ∙ agree-words (holds-agree Q v (f (drawn P)) h)
+
+-- of a sound table t that becomes u, by a step that keeps pictures right
+module _ (f : Picture → Picture) (keeps : (P : Picture) → Right P → Right (f P)) (t u : List ℕ) (e : sound t ≡ true) where
+  pub by-relation : u ≡ draw (f (picture t)) → (P : Picture) → Right P → Shows t P → Shows u (f P)
+  by-relation d P v s =
+      let to : u ≡ draw (f P) = d ∙ ap (λ (Q : Picture). draw (f Q)) (shows-picture t P v s) in
+      subst (λ (l : List ℕ). Shows l (f P)) (sym to) (draw-shows (f P) (keeps P v))
+
+  pub by-function : ((P : Picture) → Right P → Shows t P → Shows u (f P)) → u ≡ draw (f (picture t))
+  by-function h =
+      let v = sound-right t e in
+      shows-draw u (f (picture t)) (keeps (picture t) v) (h (picture t) v (sound-shows t e))
+
+  -- so calls follow one another
+  pub next-sound : u ≡ draw (f (picture t)) → sound u ≡ true
+  next-sound d = ap sound d ∙ draw-sound (f (picture t)) (keeps (picture t) (sound-right t e))
+
+  pub next-picture : u ≡ draw (f (picture t)) → picture u ≡ f (picture t)
+  next-picture d = ap picture d ∙ picture-draw (f (picture t)) (keeps (picture t) (sound-right t e))

@@ -1,0 +1,4 @@
+-- Laws of the verdict.
+pub mod Together
+pub mod Passed
+pub mod Tests

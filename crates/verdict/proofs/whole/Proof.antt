@@ -1,0 +1,57 @@
+-- Each part that fails shows that the table is not sound, and the last one tells the whole. Assumes nothing.
+use borrow.Author.Tests.{not-true, not-false}
+use Rattle.rules.proofs.Tells.{told}
+use Rattle.verdict.proofs.Passed.{zeros-fail, clients-fail, lookup-fail, items-tell}
+use borrow.Author.Needs.{needs}
+use Rattle.verdict.proofs.whole.Statement.{statement}
+use Rattle.verdict.proofs.whole.Tie as tie
+
+zeros-requires : tie.Need-zeros-requires
+zeros-requires c κs = search needs
+
+returns : tie.Need-returns
+returns c = zeros-fail _ (c .before .before .before .pre .1 .1 .1) (c .before .zeros .ensures) (c .if1 .taken)
+
+check-order-requires : tie.Need-check-order-requires
+check-order-requires c κs = search needs
+
+returns-2 : tie.Need-returns-2
+returns-2 c = clients-fail _ (c .before .before .before .before .before .pre .1 .1 .1) (c .before .check-order .ensures) (not-true _ (c .if2 .taken))
+
+header-requires : tie.Need-header-requires
+header-requires c κs = search needs
+
+check-lookup-requires : tie.Need-check-lookup-requires
+check-lookup-requires c κs = search needs
+
+returns-3 : tie.Need-returns-3
+returns-3 c =
+    let h = c .before .before in
+    lookup-fail _ (h .before .before .before .before .before .before .pre .1 .1 .1) _ (h .header .ensures) (c .before .check-lookup .ensures) (not-true _ (c .if3 .taken))
+
+check-items-requires : tie.Need-check-items-requires
+check-items-requires c κs = search needs
+
+returns-4 : tie.Need-returns-4
+returns-4 c =
+    let l = c .before .before in
+    let h = l .before in
+    let o = h .before .before in
+    let z = o .before .before in
+    let s = z .before .before in
+    items-tell _ (s .pre .1 .1 .1) _ (h .header .ensures) (s .pre .0) (s .pre .1 .0 .0) (s .pre .1 .1 .0) (told (z .zeros .ensures) (o .before .if1 .left))
+    (o .check-order .ensures .right (not-false _ (h .before .if2 .left))) (l .check-lookup .ensures) (not-false _ (c .before .if3 .left)) (c .check-items .ensures)
+
+pub whole-spec : {M : Type 1} → statement M
+whole-spec =
+    tie.close
+    (tie.spec
+    zeros-requires
+    returns
+    check-order-requires
+    returns-2
+    header-requires
+    check-lookup-requires
+    returns-3
+    check-items-requires
+    returns-4)
