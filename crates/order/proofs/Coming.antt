@@ -15,7 +15,7 @@ use Rattle.table.proofs.Fields.{each}
 use Rattle.rules.specs.Rows.{headOr, rest, without, In, NotIn}
 use Rattle.rules.specs.Parts.{Ordered}
 use Rattle.rules.proofs.Put.{Put, here, put-first, put-second, put-length, put-once, without-put}
-use Rattle.rules.proofs.Rows.{not-both, in-right, meets, distinct-right, other, in-below, gone}
+use Rattle.rules.proofs.Rows.{not-both, in-right, meets, distinct-right, other, in-below}
 use Rattle.links.proofs.Lists.{elsewhere}
 use Rattle.links.proofs.Pools.{spare-so, spare-take}
 use Rattle.lookup.specs.Book.{enterRow, leaveRow}
@@ -30,8 +30,9 @@ module _ {q : ℕ} {R : Regions} {rows : List ℕ} {n : ℕ → ℕ} {first : �
   abbrev r : ℕ
   r = R .header kind.freeClientAt
 
-  abbrev before : Regions
-  before = enterRow q r (takeRow r id R)
+  -- the row taken, with its id, in front of its bucket
+  abbrev filed : Regions
+  filed = enterRow q r (takeRow r id R)
 
   is-first : r ≡ first
   is-first = o .chain .0
@@ -44,12 +45,12 @@ module _ {q : ℕ} {R : Regions} {rows : List ℕ} {n : ℕ → ℕ} {first : �
   new-row : r < q
   new-row = rw is-first (in-below q (rows ++ first ∷ free) (o .each .below) first (in-right first rows (first ∷ free) (inl refl)))
 
-  seen : Grouped q before n (groups n rows)
+  seen : Grouped q filed n (groups n rows)
   seen = let G = to-groups o in record { linked = G .linked; counted = G .counted; sorted = G .sorted; lightEnd = G .lightEnd; heavyEnd = G .heavyEnd }
 
   entered : Grouped q (admitted q id R) (at n r 1) (but (groups n rows) 0 (r ∷ groups n rows 0))
   entered =
-      let G = placed-grouped q hq before n (groups n rows) seen r 0 (omega (arith, new-row)) 1 kind.none refl refl new-row (rw (in-order o) (rows-first .0)) in
+      let G = placed-grouped q hq filed n (groups n rows) seen r 0 (omega (arith, new-row)) 1 kind.none refl refl new-row (rw (in-order o) (rows-first .0)) in
       record { linked = G .linked; counted = G .counted; sorted = G .sorted; lightEnd = G .lightEnd; heavyEnd = G .heavyEnd }
 
   is-entered : joined (but (groups n rows) 0 (r ∷ groups n rows 0)) 0 q ≡ r ∷ rows
@@ -63,11 +64,13 @@ module _ {q : ℕ} {R : Regions} {rows : List ℕ} {n : ℕ → ℕ} {first : �
       (λ x f i.
       let a = free-aside hq o x (inr i) in
       let n′ : x ≡ r → ⊥ = λ e. other r x free (rows-first .1) i (sym e) in
-      sym (placed-aside q hq before n (groups n rows) seen r 0 (omega (arith, new-row)) 1 kind.none refl x f n′ (rw (in-order o) a) ∙ simp (ne-eqb x r n′, cond-same)))
+      sym (placed-aside q hq filed n (groups n rows) seen r 0 (omega (arith, new-row)) 1 kind.none refl x f n′ (rw (in-order o) a) ∙ simp (ne-eqb x r n′, cond-same)))
       (spare-take (spared o) .1)
 
   come : Ordered q (admitted q id R) (r ∷ rows) (at n r 1) free
-  come = from-groups (r ∷ rows) entered is-entered (rw (o .number) (add-one (length rows))) (put-once q (subst (λ (z : ℕ). Put z (rows ++ free) (rows ++ first ∷ free)) (sym is-first) (put-second rows here)) here (o .each)) new-spared
+  come =
+      let put : Put r (rows ++ free) (rows ++ first ∷ free) = rw is-first (put-second rows here) in
+      from-groups (r ∷ rows) entered is-entered (rw (o .number) (add-one (length rows))) (put-once q put here (o .each)) new-spared
 
 module _ {q : ℕ} {R : Regions} {rows : List ℕ} {n : ℕ → ℕ} where
   -- what the code asks: the first free row is a row, and there is room for one more

@@ -6,14 +6,12 @@ use native.Mathlib.Omega.{arith}
 use Rattle.table.specs.Kind as kind
 use Rattle.table.specs.Regions.{Regions, at}
 use Rattle.table.proofs.Draw.{at-same}
-use Rattle.table.proofs.Fields.{each}
-use Rattle.rules.specs.Rows.{lastOr, rest, without, In, Below}
+use Rattle.rules.specs.Rows.{lastOr, without, In, Below}
 use Rattle.rules.specs.Linked.{Link}
 use Rattle.rules.specs.History.{place}
-use Rattle.rules.specs.Draw.{group}
 use Rattle.rules.specs.Parts.{Ordered}
 use Rattle.rules.proofs.Put.{Put, put-first, put-length, put-once, without-put}
-use Rattle.rules.proofs.Rows.{not-both, below-left, below-right, notin-without, gone}
+use Rattle.rules.proofs.Rows.{not-both, below-left, below-right, notin-without}
 use Rattle.rules.proofs.Linked.{head-link, last-link}
 use Rattle.links.proofs.Lists.{neighbour-links}
 use Rattle.links.proofs.Pools.{spare-so}
