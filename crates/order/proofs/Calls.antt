@@ -20,7 +20,7 @@ use Rattle.links.proofs.Lists.{end-links}
 use Rattle.lookup.specs.Book.{idOf, enterRow, leaveRow, put}
 use Rattle.lookup.specs.View.{Keeps, kept-below, word-after, kept-same, kept-id, kept-enter, kept-leave}
 use Rattle.order.specs.Moves.{endWithout, orElse, leaveGroup, enterGroup, takeOut, after, putIn, raiseAfter, raised, lowerBefore, lowerAfter, lowered, oneMore, oneLess, takeRow, admitted, clearRow, freeRow, dismissed}
-use Rattle.order.specs.Asks.{Finds, Drawn, Standing, Client, Vacant, Enters, Leaves}
+use Rattle.order.specs.Asks.{Finds, Drawn, Standing, Listed, Vacant, Enters, Leaves}
 use Rattle.order.proofs.Moved.{stands, raise-links, lower-links, lower-row}
 use Rattle.order.proofs.Coming.{first-free, room-for}
 
@@ -111,7 +111,7 @@ module _ {q : ℕ} {t : List ℕ} where
 
   -- out and in again
 
-  module _ {r : ℕ} {F : ℕ → Type 0} (hq : q ≤ kind.largest) (D : Drawn q t (Client q r F)) where
+  module _ {r : ℕ} {F : ℕ → Type 0} (hq : q ≤ kind.largest) (D : Drawn q t (Listed q r F)) where
     pub client-stands : Drawn q t (Standing q r)
     client-stands = record { regs = D .regs; drawn = D .drawn; holds = stands hq (D .holds .ordered) r (D .holds .there) }
 
@@ -135,7 +135,7 @@ module _ {q : ℕ} {t : List ℕ} where
       move-writes h hx y =
           so-read (then w y) (λ R d. ap₂ (λ (m k : ℕ). putIn r (h m) k (takeOut r R)) (count-read client-stands hx .is R d) (g .is R d))
 
-  module _ {r : ℕ} (hq : q ≤ kind.largest) (D : Drawn q t (Client q r (λ n. n < q))) {x : ℕ} (hx : x ≡ clientWord t q r kind.count) where
+  module _ {r : ℕ} (hq : q ≤ kind.largest) (D : Drawn q t (Listed q r (λ n. n < q))) {x : ℕ} (hx : x ≡ clientWord t q r kind.count) where
     pub room : x < q
     room = rw (count-is hq D hx) (D .holds .counts)
 
@@ -147,7 +147,7 @@ module _ {q : ℕ} {t : List ℕ} where
     pub raise-writes : {a b : List ℕ} {e : ℕ} → Finds q t (raiseAfter r) e → Writes q t a (takeOut r) 4 → Writes q a b (putIn r (x + 1) e) 7 → Writes q t b (raised r) 11
     raise-writes g w y = move-writes hq D w (raiseAfter r) g (λ k. k + 1) hx y
 
-  module _ {r : ℕ} (hq : q ≤ kind.largest) (D : Drawn q t (Client q r (λ n. 2 ≤ n))) where
+  module _ {r : ℕ} (hq : q ≤ kind.largest) (D : Drawn q t (Listed q r (λ n. 2 ≤ n))) where
     pub before-row : {x : ℕ} → Finds q t (lowerBefore r) x → x < q
     before-row f = rw (f .is (D .regs) (D .drawn)) (lower-row hq (D .holds .ordered) r (D .holds .there) (D .holds .counts))
 
@@ -218,7 +218,7 @@ module _ {q : ℕ} {t : List ℕ} where
       so-read (then (then w y) z)
       (λ R d. ap (λ (k : ℕ). setHeader kind.freeClientAt r (setClient r kind.heavier k (clearRow r R))) (e ∙ read-header q R kind.freeClientAt d (lit< tt)))
 
-  module _ {a : List ℕ} {r : ℕ} {F : ℕ → Type 0} (hq : q ≤ kind.largest) (D : Drawn q t (Client q r F)) (x : Writes q t a (leaveRow q r) 2) where
+  module _ {a : List ℕ} {r : ℕ} {F : ℕ → Type 0} (hq : q ≤ kind.largest) (D : Drawn q t (Listed q r F)) (x : Writes q t a (leaveRow q r) 2) where
     pub stands-after : Drawn q a (Standing q r)
     stands-after =
         let S = client-stands hq D in
