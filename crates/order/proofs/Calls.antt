@@ -24,6 +24,10 @@ use Rattle.order.specs.Asks.{Finds, Drawn, Standing, Listed, Vacant, Ent
 use Rattle.order.proofs.Moved.{stands, raise-links, lower-links, lower-row}
 use Rattle.order.proofs.Coming.{first-free, room-for}
 
+-- what a table is drawn from, after a writer
+pub drawn-then : {q : ℕ} {a b : List ℕ} {f : Regions → Regions} {k : ℕ} {F G : Regions → Type 0} → Writes q a b f k → ((R : Regions) → F R → G (f R)) → Drawn q a F → Drawn q b G
+drawn-then {f = f} w h D = record { regs = f (D .regs); drawn = w .drawn (D .regs) (D .drawn); holds = h (D .regs) (D .holds) }
+
 module _ {q : ℕ} {t : List ℕ} where
   -- groups
 
@@ -177,12 +181,7 @@ module _ {q : ℕ} {t : List ℕ} where
 
   module _ {a b : List ℕ} (id r : ℕ) (D : Drawn q t (Vacant q)) (x : Writes q t a (takeRow r id) 2) (y : Writes q a b (enterRow q r) 2) where
     pub lightest-link : Drawn q b (λ R. Link q (after kind.none R))
-    lightest-link =
-        record {
-          regs = enterRow q r (takeRow r id (D .regs));
-          drawn = then x y .drawn (D .regs) (D .drawn);
-          holds = end-links (D .holds .ordered .linked) .0;
-        }
+    lightest-link = drawn-then (then x y) (λ R v. end-links (v .ordered .linked) .0) D
 
     module _ {c : List ℕ} (z : Writes q b c (putIn r 1 kind.none) 7) where
       pub room-after : getD c kind.clientsAt 0 < q
@@ -221,12 +220,7 @@ module _ {q : ℕ} {t : List ℕ} where
   module _ {a : List ℕ} {r : ℕ} {F : ℕ → Type 0} (hq : q ≤ kind.largest) (D : Drawn q t (Listed q r F)) (x : Writes q t a (leaveRow q r) 2) where
     pub stands-after : Drawn q a (Standing q r)
     stands-after =
-        let S = client-stands hq D in
-        record {
-          regs = leaveRow q r (S .regs);
-          drawn = x .drawn (S .regs) (S .drawn);
-          holds = record { row = S .holds .row; least = S .holds .least; most = S .holds .most; lighter = S .holds .lighter; heavier = S .holds .heavier };
-        }
+        drawn-then x (λ R s. record { row = s .row; least = s .least; most = s .most; lighter = s .lighter; heavier = s .heavier }) (client-stands hq D)
 
     module _ {b c : List ℕ} (y : Writes q a b (takeOut r) 4) (z : Writes q b c (freeRow r) 5) where
       pub somebody : 1 ≤ getD c kind.clientsAt 0
