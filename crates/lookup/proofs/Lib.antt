@@ -1,0 +1,4 @@
+-- What the proofs of the lookup share.
+pub mod Writers
+pub mod Walks
+pub mod Rooms

@@ -1,0 +1,20 @@
+-- The chain of the id's bucket ends, and holds the client of that id if there is one.
+use borrow.Author.Needs.{needs}
+use Rattle.lookup.specs.View.{first-ends, first-found}
+use Rattle.lookup.proofs.find.Statement.{statement}
+use Rattle.lookup.proofs.find.Tie as tie
+
+bucket-in-requires : tie.Need-bucket-in-requires
+bucket-in-requires c κs = search needs
+
+bucket-requires : tie.Need-bucket-requires
+bucket-requires c κs = search needs
+
+seek-requires : tie.Need-seek-requires
+seek-requires c κs = search (first-ends, needs)
+
+returns : tie.Need-returns
+returns c = λ cs C k. search (first-found, needs)
+
+pub find-spec : {M : Type 1} → statement M
+find-spec = tie.close (tie.spec bucket-in-requires bucket-requires seek-requires returns)

@@ -1,0 +1,28 @@
+-- The three tests, one after the other.
+use borrow.Author.Needs.{needs}
+use Rattle.lookup.proofs.Rooms.{fits-out, fits-idle, fits-home}
+use Rattle.lookup.proofs.fits.Statement.{statement}
+use Rattle.lookup.proofs.fits.Tie as tie
+
+returns : tie.Need-returns
+returns c = search (fits-out, needs)
+
+client-requires : tie.Need-client-requires
+client-requires c κs = search needs
+
+returns-2 : tie.Need-returns-2
+returns-2 c = search (fits-idle, needs)
+
+client-requires-2 : tie.Need-client-requires-2
+client-requires-2 c κs = search needs
+
+bucket-in-requires : tie.Need-bucket-in-requires
+bucket-in-requires c κs = search needs
+
+returns-3 : tie.Need-returns-3
+returns-3 c = search (fits-home, needs)
+
+pub fits-spec : {M : Type 1} → statement M
+fits-spec =
+    tie.close
+    (tie.spec returns client-requires returns-2 client-requires-2 bucket-in-requires returns-3)

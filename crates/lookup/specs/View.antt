@@ -1,0 +1,146 @@
+-- The promise to the layers above: which clients a table keeps, in which chains. How the chains lie in the words is shut in this module.
+use mathlib.Core.List.{List, [], _∷_}
+use mathlib.Core.Bool.{Bool, true}
+use mathlib.Core.Path.{_≡_, refl, sym, _∙_, subst}
+use mathlib.Core.Logic.{⊎-elim}
+use Prim.Native.Nat.{ℕ, _<_}
+use native.Mathlib.Omega.{arith}
+use lib.Dec.{lit<}
+use lib.ListN.{length}
+use borrow.Author.Tests.{eq-eqb}
+use Rattle.table.specs.Kind as kind
+use Rattle.table.specs.Regions.{Regions, words, regions, clientWord, bucketWord, Sized, Writes}
+use Rattle.table.proofs.Draw.{at-other}
+use Rattle.table.proofs.Write.{draws, read-client, read-bucket}
+use Rattle.rules.specs.Rows.{In, NotIn, Distinct, without}
+use Rattle.rules.specs.Linked.{Links, Linked, Chain}
+use Rattle.rules.specs.Spread.{bucket}
+use Rattle.rules.proofs.Rows.{Within, other, in-or-not}
+use Rattle.lookup.specs.Book.{Book, book, bookOf, idOf, nextOf, from, rowsOf, OwnIds, Filed, Ends, Reaches, Found, enterRow, leaveRow, put, cut, withId}
+use Rattle.lookup.specs.Check.{chainsOf, countOf, Waits, Tells, Counted}
+use Rattle.lookup.specs.Laws.Filing.{filed-members, filed-agree, filed-none, found-kept, chain-ends, chain-is, enter-filed, leave-filed}
+use Rattle.lookup.specs.Laws.Checking.{check-sound, check-complete}
+
+-- the table keeps the clients cs, in the chains C. The field has no `pub`: no other module can look into it
+pub record Keeps (q : ℕ) (t cs : List ℕ) (C : ℕ → List ℕ) : Type 0 where
+  filed : Filed q (bookOf q t) cs C
+
+-- a table that keeps some clients
+pub record Kept (q : ℕ) (t : List ℕ) : Type 0 where
+  pub clients : List ℕ
+  pub chains : ℕ → List ℕ
+  pub keeps : Keeps q t clients chains
+
+-- an answer that tells, of the n clients that wait, exactly whether the table keeps them
+pub record Checked (q : ℕ) (t : List ℕ) (n : ℕ) (ok : Bool) : Type 0 where
+  pub right : (cs : List ℕ) → Waits q t cs → length cs ≡ n → ok ≡ true → Keeps q t cs (chainsOf q t)
+  pub passes : (cs : List ℕ) (C : ℕ → List ℕ) → Waits q t cs → length cs ≡ n → Keeps q t cs C → ok ≡ true
+
+-- the clients and their chains
+
+module _ {q : ℕ} {t cs : List ℕ} {C : ℕ → List ℕ} (k : Keeps q t cs C) where
+  pub kept-below : (r : ℕ) → In r cs → r < q
+  kept-below = k .filed .below
+
+  pub kept-ids : OwnIds (idOf q t) cs
+  kept-ids = k .filed .ids
+
+  pub kept-stands : (r : ℕ) → In r cs → In r (C (bucket q (idOf q t r)))
+  kept-stands = k .filed .stands
+
+  pub kept-apart : Distinct (rowsOf q C)
+  kept-apart = k .filed .apart
+
+  pub kept-nobody : Within (rowsOf q C) cs
+  kept-nobody = k .filed .nobody
+
+  -- the order of the clients does not matter
+  pub kept-members : (ds : List ℕ) → Within cs ds → Within ds cs → Keeps q t ds C
+  kept-members ds f g = record { filed = filed-members f g (k .filed) }
+
+  -- the words fix the chains
+  pub kept-columns : (b : ℕ) → b < q → Chain (λ r. clientWord t q r kind.nextInBucket) (bucketWord t q b) (C b)
+  kept-columns = k .filed .chained
+
+  pub kept-chains : Sized q t → (b : ℕ) → b < q → chainsOf q t b ≡ C b
+  kept-chains z = chain-is (omega (arith, z .small)) (k .filed)
+
+-- and the other way round: words that lie so keep the clients
+pub columns-kept : {q : ℕ} {t cs : List ℕ} {C : ℕ → List ℕ} → Filed q (bookOf q t) cs C → Keeps q t cs C
+columns-kept F = record { filed = F }
+
+-- what find and leave rest on: h is the word that was read as the first row of bucket b
+module _ {q : ℕ} {t : List ℕ} {b h : ℕ} (z : Sized q t) (hb : b < q) (first : h ≡ bucketWord t q b) where
+  pub first-ends : Kept q t → Ends q (nextOf q t) h
+  first-ends K = rw first (chain-ends (omega (arith, z .small)) (K .keeps .filed) b hb)
+
+  pub first-found : {cs : List ℕ} {C : ℕ → List ℕ} {x r : ℕ} → Keeps q t cs C → b ≡ bucket q x → Found (idOf q t) (from q t h) x r → Found (idOf q t) cs x r
+  first-found {x = x} {r} k home f = found-kept (omega (arith, z .small)) (k .filed) b hb x r home (rw first at f)
+
+  pub first-reaches : {x r : ℕ} → ((K : Kept q t) × In r (K .clients)) → x ≡ clientWord t q r kind.id → b ≡ bucket q x → Reaches q (nextOf q t) h r
+  first-reaches {x} {r} K id home =
+      record { ends = first-ends (K .0); there = rw (first, chain-is (omega (arith, z .small)) (K .0 .keeps .filed) b hb, home, id) (K .0 .keeps .filed .stands r (K .1)) }
+
+-- nobody, where every bucket is empty
+pub kept-none : (q : ℕ) (t : List ℕ) → ((b : ℕ) → b < q → bucketWord t q b ≡ kind.none) → Keeps q t [] (λ b. [])
+kept-none q t h = record { filed = filed-none q (bookOf q t) h }
+
+-- a table drawn from regions
+drawn-kept : {q : ℕ} {t cs : List ℕ} {C : ℕ → List ℕ} (R : Regions) → t ≡ words q R → Filed q (book R) cs C → Keeps q t cs C
+drawn-kept {q} R e F =
+    record {
+      filed = filed-agree
+          (record {
+            id = λ r i l. sym (read-client q R r kind.id e l (lit< tt));
+            next = λ r i l. sym (read-client q R r kind.nextInBucket e l (lit< tt));
+            head = λ b l. sym (read-bucket q R b e l);
+          })
+          F;
+    }
+
+-- writers
+
+module _ {q : ℕ} {a b : List ℕ} {f : Regions → Regions} {k : ℕ} (z : Sized q a) (w : Writes q a b f k) where
+  -- a word of a client row that a writer leaves
+  pub word-after : (r g : ℕ) → r < q → g < kind.clientWords → clientWord b q r g ≡ f (regions q a) .client r g
+  word-after r g h l = read-client q (f (regions q a)) r g (draws z w) h l
+
+  written : {cs : List ℕ} {C : ℕ → List ℕ} → Filed q (book (f (regions q a))) cs C → Keeps q b cs C
+  written F = drawn-kept (f (regions q a)) (draws z w) F
+
+  module _ {cs : List ℕ} {C : ℕ → List ℕ} (m : Keeps q a cs C) where
+    -- a writer of other columns: the proof is `λ R. refl`
+    pub kept-same : ((R : Regions) → book (f R) ≡ book R) → Keeps q b cs C
+    kept-same same = written (subst (λ (B : Book). Filed q B cs C) (sym (same (regions q a))) (m .filed))
+
+    -- a writer that alters besides the id of a row that is no client: likewise
+    pub kept-id : (r v : ℕ) → NotIn r cs → ((R : Regions) → book (f R) ≡ withId r v (book R)) → Keeps q b cs C
+    kept-id r v n same =
+        written
+        (subst (λ (B : Book). Filed q B cs C) (sym (same (regions q a)))
+        (filed-agree (record { id = λ s i l. sym (at-other (idOf q a) r v s (λ e. other r s cs n i (sym e))); next = λ s i l. refl; head = λ c l. refl }) (m .filed)))
+
+module _ {q : ℕ} {a b cs : List ℕ} {C : ℕ → List ℕ} {k : ℕ} (r : ℕ) (z : Sized q a) (m : Keeps q a cs C) where
+  pub kept-enter : Writes q a b (enterRow q r) k → r < q → NotIn r cs → ((s : ℕ) → In s cs → idOf q a s ≡ idOf q a r → ⊥) → Keeps q b (r ∷ cs) (put (bucket q (idOf q a r)) r C)
+  kept-enter w h n own = written z w (enter-filed q (regions q a) cs C r (m .filed) n (omega (arith, z .small)) h own)
+
+  pub kept-leave : Writes q a b (leaveRow q r) k → In r cs → Distinct cs → Keeps q b (without r cs) (cut r C)
+  kept-leave w i d = written z w (leave-filed q (omega (arith, z .small)) (regions q a) cs C r (m .filed) i d)
+
+-- the word of a row that left
+pub left-word : {q : ℕ} {a b : List ℕ} {k : ℕ} (r : ℕ) → Sized q a → Writes q a b (leaveRow q r) k → r < q → clientWord b q r kind.nextInBucket ≡ 0
+left-word r z w h = word-after z w r kind.nextInBucket h (lit< tt) ∙ rw (eq-eqb r r refl)
+
+-- the check
+
+-- the clients are known where they are linked, wait, and nobody else does
+pub waits-linked : {q : ℕ} {L : Links} {cs : List ℕ} (t : List ℕ) → Linked q L cs → ((r : ℕ) → In r cs → countOf q t r ≡ 0 → ⊥) → ((r : ℕ) → r < q → NotIn r cs → countOf q t r ≡ 0) → Waits q t cs
+waits-linked {cs = cs} t k some zero =
+    record { distinct = k .distinct; below = k .below; counted = some; others = λ r l n. ⊎-elim (λ i. i) (λ m. absurd (n (zero r l m))) (in-or-not r cs) }
+
+pub checked : {q : ℕ} {t : List ℕ} {n : ℕ} {ok : Bool} → Sized q t → Tells (Counted q t n) ok → Checked q t n ok
+checked z f =
+    record {
+      right = λ cs w l o. record { filed = check-sound (omega (arith, z .small)) w (rw l (f .yes o)) };
+      passes = λ cs C w l m. f .no (rw (← l) (check-complete (omega (arith, z .small)) w (m .filed)));
+    }

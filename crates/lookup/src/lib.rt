@@ -1,0 +1,193 @@
+// The lookup of clients by id: for each bucket a chain of client rows.
+// Its functions rest on the table's size and on the spread table, which is lent down; find and leave also on a table that keeps its clients.
+ghost use mathlib.Core.Path.{_≡_};
+ghost use mathlib.Core.List.{List};
+ghost use Prim.Native.Nat.{ℕ, _<_};
+ghost use Rattle.table.specs.Kind as kind;
+ghost use Rattle.table.specs.Regions.{Sized, Writes};
+ghost use Rattle.rules.specs.Rows.{In};
+ghost use Rattle.rules.specs.Linked.{Link};
+ghost use Rattle.rules.specs.Spread.{IsSpread};
+ghost use Rattle.rules.specs.Draw.{before};
+ghost use Rattle.lookup.specs.Book.{idOf, nextOf, from, OwnIds, Ends, Reaches, Found, enterRow, hook, leaveAt, leaveRow};
+ghost use Rattle.lookup.specs.Check.{Tells, Fits, Left};
+ghost use Rattle.lookup.specs.View.{Keeps, Kept, Checked};
+use table::LinkedTable;
+
+// The row with that id on a chain that ends, or none.
+fn seek(t: &[u32], q: usize, first: u32, id: u32) -> u32
+    requires { ⌜ Sized q (now t) ⌝ }
+    requires { ⌜ Ends q (nextOf q (now t)) first ⌝ }
+    ensures { λ r. ⌜ Found (idOf q (now (t .entry))) (from q (now (t .entry)) first) id r ⌝ }
+{
+    let mut at = first;
+    while at != LinkedTable::NONE {
+        if table::client(t, q, at, LinkedTable::ID) == id {
+            return at;
+        }
+        at = table::client(t, q, at, LinkedTable::NEXT_IN_BUCKET);
+    }
+    LinkedTable::NONE
+}
+
+// The client of that id, or none.
+pub fn find(t: &[u32], q: usize, s: &[u32; 1024], id: u32) -> u32
+    requires { ⌜ Sized q (now t) ⌝ }
+    requires { ⌜ (0 < q) × IsSpread (now s) ⌝ }
+    requires { ⌜ Kept q (now t) ⌝ }
+    ensures { λ r. ⌜ ((cs : List ℕ) (C : ℕ → List ℕ) → Keeps q (now (t .entry)) cs C → Found (idOf q (now (t .entry))) cs id r) ⌝ }
+{
+    let b = spread::bucket_in(s, id, q);
+    let first = table::bucket(t, q, b);
+    seek(t, q, first, id)
+}
+
+// The row, a new client's, goes to the front of its id's bucket.
+pub fn enter(t: &mut [u32], q: usize, s: &[u32; 1024], r: u32)
+    requires { ⌜ Sized q (now t) ⌝ }
+    requires { ⌜ (r < q) × IsSpread (now s) ⌝ }
+    ensures { λ _. ⌜ Writes q (now (t .entry)) (now (t .exit)) (enterRow q r) 2 ⌝ }
+    ensures { λ _. ⌜ Sized q (now (t .exit)) ⌝ }
+{
+    let id = table::client(t, q, r, LinkedTable::ID);
+    let b = spread::bucket_in(s, id, q);
+    let first = table::bucket(t, q, b);
+    table::set_client(t, q, r, LinkedTable::NEXT_IN_BUCKET, first);
+    table::set_bucket(t, q, b, r);
+}
+
+// The row before r on a chain that ends and holds r, or none.
+fn behind(t: &[u32], q: usize, first: u32, r: u32) -> u32
+    requires { ⌜ Sized q (now t) ⌝ }
+    requires { ⌜ Reaches q (nextOf q (now t)) first r ⌝ }
+    ensures { λ e. ⌜ e ≡ before 0 kind.none (from q (now (t .entry)) first) r ⌝ }
+    ensures { λ e. ⌜ Link q e ⌝ }
+{
+    let mut at = first;
+    let mut last = LinkedTable::NONE;
+    while at != r {
+        last = at;
+        at = table::client(t, q, at, LinkedTable::NEXT_IN_BUCKET);
+    }
+    last
+}
+
+// The pointer out of row e, or the first of bucket b where e is none.
+fn set_hook(t: &mut [u32], q: usize, b: usize, e: u32, v: u32)
+    requires { ⌜ Sized q (now t) ⌝ }
+    requires { ⌜ b < q ⌝ }
+    requires { ⌜ Link q e ⌝ }
+    ensures { λ _. ⌜ Writes q (now (t .entry)) (now (t .exit)) (hook b e v) 1 ⌝ }
+    ensures { λ _. ⌜ Sized q (now (t .exit)) ⌝ }
+{
+    if e == LinkedTable::NONE {
+        table::set_bucket(t, q, b, v);
+    } else {
+        table::set_client(t, q, e, LinkedTable::NEXT_IN_BUCKET, v);
+    }
+}
+
+// Row r, which stands after e in bucket b, leaves.
+fn unhook(t: &mut [u32], q: usize, b: usize, e: u32, r: u32)
+    requires { ⌜ Sized q (now t) ⌝ }
+    requires { ⌜ (b < q) × (r < q) ⌝ }
+    requires { ⌜ Link q e ⌝ }
+    ensures { λ _. ⌜ Writes q (now (t .entry)) (now (t .exit)) (leaveAt b e r) 2 ⌝ }
+    ensures { λ _. ⌜ Sized q (now (t .exit)) ⌝ }
+{
+    let n = table::client(t, q, r, LinkedTable::NEXT_IN_BUCKET);
+    set_hook(t, q, b, e, n);
+    table::set_client(t, q, r, LinkedTable::NEXT_IN_BUCKET, 0);
+}
+
+// The row, a client's, leaves its bucket; the order of the rest is kept.
+pub fn leave(t: &mut [u32], q: usize, s: &[u32; 1024], r: u32)
+    requires { ⌜ Sized q (now t) ⌝ }
+    requires { ⌜ (r < q) × IsSpread (now s) ⌝ }
+    requires { ⌜ ((K : Kept q (now t)) × In r (K .clients)) ⌝ }
+    ensures { λ _. ⌜ Writes q (now (t .entry)) (now (t .exit)) (leaveRow q r) 2 ⌝ }
+    ensures { λ _. ⌜ Sized q (now (t .exit)) ⌝ }
+{
+    let id = table::client(t, q, r, LinkedTable::ID);
+    let b = spread::bucket_in(s, id, q);
+    let first = table::bucket(t, q, b);
+    let e = behind(t, q, first, r);
+    unhook(t, q, b, e, r);
+}
+
+// Whether the row may stand in bucket b.
+fn fits(t: &[u32], q: usize, s: &[u32; 1024], b: usize, r: u32) -> bool
+    requires { ⌜ Sized q (now t) ⌝ }
+    requires { ⌜ IsSpread (now s) ⌝ }
+    ensures { λ ok. ⌜ Tells (Fits q (now (t .entry)) b r) ok ⌝ }
+{
+    if r as usize >= q {
+        return false;
+    }
+    if table::client(t, q, r, LinkedTable::WAITING) == 0 {
+        return false;
+    }
+    let id = table::client(t, q, r, LinkedTable::ID);
+    spread::bucket_in(s, id, q) == b
+}
+
+// The room that is left after the chain of bucket b from `first` on; 0 where the chain is wrong or has no room.
+fn room_after(t: &[u32], q: usize, s: &[u32; 1024], b: usize, first: u32, room: usize) -> usize
+    requires { ⌜ Sized q (now t) ⌝ }
+    requires { ⌜ IsSpread (now s) ⌝ }
+    ensures { λ r. ⌜ Left q (now (t .entry)) b first room r ⌝ }
+{
+    let mut left = room;
+    let mut at = first;
+    while at != LinkedTable::NONE {
+        if left == 0 {
+            return 0;
+        }
+        if !fits(t, q, s, b, at) {
+            return 0;
+        }
+        at = table::client(t, q, at, LinkedTable::NEXT_IN_BUCKET);
+        left -= 1;
+    }
+    left
+}
+
+// Whether each row of a chain that ends has an id of its own: no row after it has it.
+fn own_ids(t: &[u32], q: usize, first: u32) -> bool
+    requires { ⌜ Sized q (now t) ⌝ }
+    requires { ⌜ Ends q (nextOf q (now t)) first ⌝ }
+    ensures { λ ok. ⌜ Tells (OwnIds (idOf q (now (t .entry))) (from q (now (t .entry)) first)) ok ⌝ }
+{
+    let mut at = first;
+    while at != LinkedTable::NONE {
+        let id = table::client(t, q, at, LinkedTable::ID);
+        at = table::client(t, q, at, LinkedTable::NEXT_IN_BUCKET);
+        if seek(t, q, at, id) != LinkedTable::NONE {
+            return false;
+        }
+    }
+    true
+}
+
+// The lookup's part of the soundness check, for n clients: every chain is right, and together they hold n rows.
+pub fn check_lookup(t: &[u32], q: usize, s: &[u32; 1024], n: u32) -> bool
+    requires { ⌜ Sized q (now t) ⌝ }
+    requires { ⌜ IsSpread (now s) ⌝ }
+    ensures { λ ok. ⌜ Checked q (now (t .entry)) n ok ⌝ }
+{
+    // One more than the rows that may follow: 0 is for a chain that is wrong.
+    let mut room = n as usize + 1;
+    let mut b: usize = 0;
+    while b < q {
+        let first = table::bucket(t, q, b);
+        room = room_after(t, q, s, b, first, room);
+        if room == 0 {
+            return false;
+        }
+        if !own_ids(t, q, first) {
+            return false;
+        }
+        b += 1;
+    }
+    room == 1
+}
