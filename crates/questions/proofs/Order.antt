@@ -1,7 +1,6 @@
 -- The clients of a ready table from either end of their order: the links lead through them, and their words are the plain history's pairs.
-use mathlib.Core.Bool.{cond}
 use mathlib.Core.List.{List, [], _∷_, _++_, map, reverse, reverseAux}
-use mathlib.Core.Path.{_≡_, refl, sym, ap, ap₂, _∙_, subst}
+use mathlib.Core.Path.{_≡_, refl, sym, ap, _∙_, subst}
 use mathlib.Mathlib.Data.List.Basic.{map-reverseAux}
 use Prim.Native.Nat.{ℕ, zero, suc, _*_, _≤_, _<_, min}
 use native.Mathlib.Nat.{not-suc-le-zero, min-le-right}
@@ -13,7 +12,7 @@ use Rattle.table.specs.Kind as kind
 use Rattle.table.specs.Regions.{clientWord}
 use Rattle.rules.specs.Rows.{All, Below}
 use Rattle.rules.specs.Linked.{Run}
-use Rattle.rules.specs.History.{Request, Waiting, count, pairs, given}
+use Rattle.rules.specs.History.{Request, count, pairs, given}
 use Rattle.rules.specs.Picture.{Client, clientRow, clientId, clientRows, plain}
 use Rattle.rules.specs.Sound.{picture}
 use Rattle.rules.specs.Ready.{Ready}
@@ -23,9 +22,9 @@ use Rattle.rules.proofs.Rows.{in-below}
 use Rattle.rules.proofs.Right.{clients-below, clients-distinct}
 use Rattle.rules.proofs.Plain.{clients-plain}
 use Rattle.rules.proofs.Ready.{ready-right, ready-holds}
-use Rattle.questions.specs.Walk.{Way, lightestFirst, heaviestFirst, fromEnd, rowsFrom, pairsAt, clientsFrom, pairsFrom}
+use Rattle.questions.specs.Ends.{Way, lightestFirst, heaviestFirst, fromEnd}
+use Rattle.questions.specs.Walk.{rowsFrom, pairsAt, clientsFrom, pairsFrom}
 use Rattle.questions.specs.Replies.{needed, listedReply, listedWords, listingFrom}
-use Rattle.questions.specs.declared.Listed.{Listed}
 use Rattle.questions.specs.declared.Listed.the-variants.{Number, Refused}
 
 -- rows linked both ways, read from their other end: ys are those that were passed

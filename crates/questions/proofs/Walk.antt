@@ -1,5 +1,5 @@
 -- The walk of a listing, by what is still to do: the rows that it has yet to read, and the pairs that it has yet to store.
-use mathlib.Core.List.{List, [], _∷_, _++_}
+use mathlib.Core.List.{List, _++_}
 use mathlib.Core.Path.{_≡_, refl, ap, _∙_}
 use Prim.Native.Nat.{ℕ, zero, suc, _+_, _*_, _-_, _≤_, _<_}
 use native.Mathlib.Nat.{sub-zero, mul-zero, zero-add}

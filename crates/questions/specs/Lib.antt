@@ -1,3 +1,4 @@
--- What a listing reads from the words, and what each question answers.
+-- What the questions read, where they start, and what they answer.
+pub mod Ends
 pub mod Walk
 pub mod Replies

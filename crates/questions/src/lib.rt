@@ -6,17 +6,25 @@ ghost use lib.ListN.{length, drop};
 ghost use Rattle.table.specs.Kind as kind;
 ghost use Rattle.table.specs.Regions.{Sized};
 ghost use Rattle.rules.specs.Rows.{Below};
+ghost use Rattle.rules.specs.Spread.{IsSpread};
 ghost use Rattle.rules.specs.History as history;
 ghost use Rattle.rules.specs.Picture.{plain};
 ghost use Rattle.rules.specs.Sound.{picture};
 ghost use Rattle.rules.specs.Ready.{Ready};
-ghost use Rattle.questions.specs.Walk.{Way, clientsFrom, pairsFrom};
-ghost use Rattle.questions.specs.Replies.{listedReply, listedWords, listingFrom};
+ghost use Rattle.questions.specs.Ends.{Way, End};
+ghost use Rattle.questions.specs.Walk.{clientsFrom, pairsFrom};
+ghost use Rattle.questions.specs.Replies.{listedReply, listedWords, listingFrom, toldReply, ticketAt};
 use table::LinkedTable;
 
 // What a listing answers: how many pairs it wrote, or the number of its refusal.
 pub enum Listed {
     Number(usize),
+    Refused(u32),
+}
+
+// What oldest and newest answer: the ticket, or the number of the refusal.
+pub enum Told {
+    Ticket(u32),
     Refused(u32),
 }
 
@@ -76,4 +84,50 @@ pub fn lightest(t: &[u32], q: usize, k: usize, out: &mut [u32]) -> Listed
     ensures words { λ _. ⌜ now (out .exit) ≡ listedWords history.lightest k (plain (picture (now (t .entry)))) (now (out .entry)) ⌝ }
 {
     listing(t, q, k, LinkedTable::LIGHTEST_AT, LinkedTable::HEAVIER, out)
+}
+
+// How many requests of that client wait: 0 for an absent one.
+pub fn count(t: &[u32], q: usize, s: &[u32; 1024], id: u32) -> u32
+    requires { ⌜ Ready q (now t) ⌝ }
+    requires { ⌜ IsSpread (now s) ⌝ }
+    ensures { λ r. ⌜ r ≡ history.countOf (plain (picture (now (t .entry)))) id ⌝ }
+{
+    let r = lookup::find(t, q, s, id);
+    if r == LinkedTable::NONE {
+        return 0;
+    }
+    table::client(t, q, r, LinkedTable::WAITING)
+}
+
+// The ticket at that end of the client's own requests, whose row the client word `end` holds.
+fn own_ticket(t: &[u32], q: usize, s: &[u32; 1024], id: u32, end: usize) -> Told
+    requires { ⌜ Ready q (now t) ⌝ }
+    requires { ⌜ IsSpread (now s) ⌝ }
+    requires { ⌜ End end ⌝ }
+    ensures { λ r. ⌜ r ≡ toldReply (ticketAt end) (plain (picture (now (t .entry)))) id ⌝ }
+{
+    let c = lookup::find(t, q, s, id);
+    if c == LinkedTable::NONE {
+        return Told::Refused(6);
+    }
+    let i = table::client(t, q, c, end);
+    Told::Ticket(table::item(t, q, i, LinkedTable::TICKET))
+}
+
+// The ticket of that client's oldest request.
+pub fn oldest(t: &[u32], q: usize, s: &[u32; 1024], id: u32) -> Told
+    requires { ⌜ Ready q (now t) ⌝ }
+    requires { ⌜ IsSpread (now s) ⌝ }
+    ensures { λ r. ⌜ r ≡ toldReply history.oldestTicket (plain (picture (now (t .entry)))) id ⌝ }
+{
+    own_ticket(t, q, s, id, LinkedTable::OLDEST)
+}
+
+// The ticket of its newest.
+pub fn newest(t: &[u32], q: usize, s: &[u32; 1024], id: u32) -> Told
+    requires { ⌜ Ready q (now t) ⌝ }
+    requires { ⌜ IsSpread (now s) ⌝ }
+    ensures { λ r. ⌜ r ≡ toldReply history.newestTicket (plain (picture (now (t .entry)))) id ⌝ }
+{
+    own_ticket(t, q, s, id, LinkedTable::NEWEST)
 }

@@ -1,11 +1,11 @@
 -- The listing from the lightest end on, by `heavier`.
 use borrow.Author.Needs.{needs}
-use Rattle.questions.specs.Walk.{lightestFirst}
+use Rattle.questions.specs.Ends.{lightestFirst, heaviestFirst}
 use Rattle.questions.proofs.lightest.Statement.{statement}
 use Rattle.questions.proofs.lightest.Tie as tie
 
 listing-requires : tie.Need-listing-requires
-listing-requires c κs = (c .before .before .before .pre, lightestFirst)
+listing-requires c κs = search (lightestFirst, heaviestFirst, needs)
 
 same-length : tie.Need-same-length
 same-length c = search needs
