@@ -5,7 +5,7 @@ use Prim.Native.Nat.{ℕ, _<_}
 use lib.ListN.{length, getD}
 use Rattle.table.specs.Kind as kind
 use Rattle.table.specs.Regions.{Regions, regions}
-use Rattle.rules.specs.Rows.{In}
+use Rattle.rules.specs.Rows.{In, Below}
 use Rattle.rules.specs.Spread.{bucket}
 use Rattle.rules.specs.Picture.{Picture, clientRow, clientId, clientRows, concat, idOf, rowOf, plain}
 use Rattle.rules.specs.Sound.{build, picture, Right, Holds}
@@ -54,6 +54,10 @@ module _ {q : ℕ} {t : List ℕ} (y : Ready q t) where
       columns-kept
       (subst (λ (n : ℕ). Filed n (book.bookOf q t) (clientRows (picture t)) (λ b. getD (picture t .chains) b [])) (y .size)
       (holds-filed (picture t) (ready-right y) (regions q t) (ready-holds y)))
+
+  -- a row of the table
+  pub ready-low : (xs : List ℕ) → Below (picture t .size) xs → (r : ℕ) → In r xs → r < q
+  ready-low xs b r i = subst (λ (n : ℕ). r < n) (y .size) (in-below (picture t .size) xs b r i)
 
   -- what the lookup asks
   pub ready-keeps : Kept q t

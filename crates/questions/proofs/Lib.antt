@@ -1,6 +1,8 @@
--- Laws of the questions: the walk of a listing and the clients that it comes to, and what the lookup finds in a ready table.
+-- Laws of the questions: where they start, what the lookup finds in a ready table, the listings, and what is told of one client.
+pub mod Ends
+pub mod Kept
 pub mod Walk
 pub mod Order
-pub mod Kept
+pub mod Listings
 pub mod Own
 pub mod Tell

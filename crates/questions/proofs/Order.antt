@@ -1,31 +1,29 @@
 -- The clients of a ready table from either end of their order: the links lead through them, and their words are the plain history's pairs.
-use mathlib.Core.List.{List, [], _∷_, _++_, map, reverse, reverseAux}
-use mathlib.Core.Path.{_≡_, refl, sym, ap, _∙_, subst}
+use mathlib.Core.List.{List, [], _∷_, map, reverse, reverseAux}
+use mathlib.Core.Path.{_≡_, refl, sym, ap, _∙_}
 use mathlib.Mathlib.Data.List.Basic.{map-reverseAux}
-use Prim.Native.Nat.{ℕ, zero, suc, _*_, _≤_, _<_, min}
-use native.Mathlib.Nat.{not-suc-le-zero, min-le-right}
+use Prim.Native.Nat.{ℕ, zero, suc, _≤_, _<_}
+use native.Mathlib.Nat.{not-suc-le-zero}
 use native.Mathlib.Omega.{arith}
-use lib.Dec.{eqb, lit<}
-use lib.ListN.{length, getD, take, drop, length-map, length-reverse}
-use borrow.Author.Tests.{lt-ltb, le-ltb}
+use lib.Dec.{eqb}
+use lib.ListN.{length, getD, take, length-map, length-reverse}
 use Rattle.table.specs.Kind as kind
 use Rattle.table.specs.Regions.{clientWord}
 use Rattle.rules.specs.Rows.{All, Below}
 use Rattle.rules.specs.Linked.{Run}
-use Rattle.rules.specs.History.{Request, count, pairs, given}
+use Rattle.rules.specs.History.{Request, count, pairs}
 use Rattle.rules.specs.Picture.{Client, clientRow, clientId, clientRows, plain}
 use Rattle.rules.specs.Sound.{picture}
 use Rattle.rules.specs.Ready.{Ready}
 use Rattle.rules.proofs.Choose.{either-way, side-by-side}
 use Rattle.rules.proofs.Put.{put-there, all-puts, take-all}
-use Rattle.rules.proofs.Rows.{in-below}
 use Rattle.rules.proofs.Right.{clients-below, clients-distinct}
 use Rattle.rules.proofs.Plain.{clients-plain}
 use Rattle.rules.proofs.Ready.{ready-right, ready-holds}
-use Rattle.questions.specs.Ends.{Way, lightestFirst, heaviestFirst, fromEnd}
+use Rattle.questions.specs.Ends.{fromEnd}
 use Rattle.questions.specs.Walk.{rowsFrom, pairsAt, clientsFrom, pairsFrom}
-use Rattle.questions.specs.Replies.{needed, listedReply, listedWords, listingFrom}
-use Rattle.questions.specs.declared.Listed.the-variants.{Number, Refused}
+use Rattle.questions.proofs.Ends.{Way, lightestFirst, heaviestFirst}
+use Rattle.questions.proofs.Kept.{ready-low}
 
 -- rows linked both ways, read from their other end: ys are those that were passed
 turned : (b o : ℕ → ℕ) (p h : ℕ) (xs ys : List ℕ) (n l m k : ℕ) → Run b o p h xs n l → Run o b h p ys m k → Run o b n l (reverseAux xs ys) m k
@@ -84,7 +82,7 @@ module _ {q : ℕ} {t : List ℕ} (y : Ready q t) where
       let h = ready-holds y in
       all-puts _ (P .clients)
       (λ c cs p. record {
-        low = subst (λ (n : ℕ). c .row < n) (y .size) (in-below (P .size) (clientRows P) (clients-below P v) (c .row) (put-there clientRow p));
+        low = ready-low y (clientRows P) (clients-below P v) (c .row) (put-there clientRow p);
         id = take-all _ p (h .id) .0;
         count = h .counted (c .row) (put-there clientRow p) ∙ sym (take-all _ p (clients-plain (P .clients) (v .ids) (P .window) (clients-distinct P v) (v .owners)) .0);
       })
@@ -111,38 +109,3 @@ module _ {q : ℕ} {t : List ℕ} (y : Ready q t) where
         ap (pairsAt (clientWord t q)) (led-from w)
         ∙ shown-pairs q t _ (take k (fromEnd end (picture t .clients))) (all-taken _ end k (picture t .clients) all-shown)
         ∙ ap (pairs (plain (picture t) .window)) (taken clientId end k (picture t .clients))
-
--- the words of a way are words of the header and of a client row
-pub way-end : {end link : ℕ} → Way end link → end < kind.headerWords
-way-end lightestFirst = lit< tt
-way-end heaviestFirst = lit< tt
-
-pub way-link : {end link : ℕ} → Way end link → link < kind.clientWords
-way-link lightestFirst = lit< tt
-way-link heaviestFirst = lit< tt
-
--- a listing: m is the number of clients that was read, n the smaller of k and m, and h the first row
-module _ {q m n : ℕ} {t : List ℕ} (k : ℕ) (y : Ready q t) (clients : m ≡ getD t kind.clientsAt 0) (least : n ≡ min k m) where
-  is-given : n ≡ given k (plain (picture t))
-  is-given = least ∙ ap (min k) (clients ∙ number y)
-
-  few : n ≤ length (clientRows (picture t))
-  few = omega (arith, min-le-right k m, number y, length-map (picture t .clients) clientId, length-map (picture t .clients) clientRow)
-
-  pub listing-refused : (end : ℕ) (out : List ℕ) → length out < 2 * n
-      → (Refused 4 ≡ listedReply k (length out) (plain (picture t))) × (out ≡ listedWords (listingFrom end) k (plain (picture t)) out)
-  listing-refused end out short =
-      let s = lt-ltb (length out) (needed k (plain (picture t))) (subst (λ (i : ℕ). length out < 2 * i) is-given short) in
-      (rw s, rw s)
-
-  module _ {end link h : ℕ} (w : Way end link) (first : h ≡ getD t end 0) where
-    pub listing-low : Below q (clientsFrom q t link n h)
-    listing-low = rw first (from-low y n few w)
-
-    pub listing-done : (out : List ℕ) {after : List ℕ} → 2 * n ≤ length out → after ≡ pairsFrom q t link n h ++ drop (2 * n) out
-        → (Number n ≡ listedReply k (length out) (plain (picture t))) × (after ≡ listedWords (listingFrom end) k (plain (picture t)) out)
-    listing-done out room e =
-        let s = le-ltb (length out) (needed k (plain (picture t))) (subst (λ (i : ℕ). 2 * i ≤ length out) is-given room) in
-        let ps : ℕ → List ℕ = λ i. pairs (plain (picture t) .window) (take i (fromEnd end (plain (picture t) .order))) in
-        let read : pairsFrom q t link n h ≡ ps n = rw first (from-pairs y n few w) in
-        (rw s (ap Number is-given), rw s (e ∙ rw read (ap (λ (i : ℕ). ps i ++ drop (2 * i) out) is-given)))

@@ -3,9 +3,9 @@ use mathlib.Core.Bool.{Bool, true, false, cond, _&&_}
 use mathlib.Core.List.{List, [], _∷_, map}
 use mathlib.Core.Path.{_≡_, refl, sym, ap, ap₂, subst}
 use mathlib.Core.Logic.{inl}
-use Prim.Native.Nat.{ℕ, suc, _≤_, _<_}
+use Prim.Native.Nat.{ℕ, suc, _≤_}
 use native.Mathlib.Nat.{not-suc-le-zero}
-use lib.Dec.{eqb, eqb·suc-zero, lit<}
+use lib.Dec.{eqb, eqb·suc-zero}
 use lib.ListN.{length}
 use borrow.Author.Tests.{ne-eqb}
 use Rattle.table.specs.Kind as kind
@@ -18,8 +18,8 @@ use Rattle.rules.proofs.Put.{put-there}
 use Rattle.rules.proofs.Rows.{last-in}
 use Rattle.rules.proofs.Look.{find}
 use Rattle.rules.proofs.Plain.{id-test}
-use Rattle.questions.specs.Ends.{End, oldestEnd, newestEnd}
 use Rattle.questions.specs.Replies.{ticketAt}
+use Rattle.questions.proofs.Ends.{End, oldestEnd, newestEnd}
 
 -- the tickets of client i's requests, oldest first: as many as its count, and its oldest and newest at the ends
 
@@ -72,11 +72,6 @@ end-map newestEnd f d (x ∷ xs) h = last-map f x xs
 pub end-ticket : {end : ℕ} → End end → (s : Waiting) (i : ℕ) → ticketAt end s i ≡ endOr end 0 (tickets i (s .window))
 end-ticket oldestEnd s i = oldest-ticket i (s .window)
 end-ticket newestEnd s i = newest-ticket i (s .window)
-
--- the word of an end is one of a client row
-pub end-word : {end : ℕ} → End end → end < kind.clientWords
-end-word oldestEnd = lit< tt
-end-word newestEnd = lit< tt
 
 -- by rows and by id
 

@@ -10,7 +10,6 @@ use Rattle.rules.specs.History as history
 use Rattle.rules.specs.Picture.{clientRows, ownRows, idOf, plain}
 use Rattle.rules.specs.Sound.{picture}
 use Rattle.rules.specs.Ready.{Ready}
-use Rattle.rules.proofs.Rows.{in-below}
 use Rattle.rules.proofs.Columns.{first-is, last-is}
 use Rattle.rules.proofs.Decide.{has-decides}
 use Rattle.rules.proofs.Right.{clients-below, counts-one}
@@ -19,10 +18,10 @@ use Rattle.rules.proofs.Ready.{ready-right, ready-holds}
 use Rattle.lookup.specs.Book as book
 use Rattle.lookup.specs.Book.{Found}
 use Rattle.lookup.specs.View.{Keeps}
-use Rattle.questions.specs.Ends.{End, oldestEnd, newestEnd}
 use Rattle.questions.specs.Replies.{toldReply, ticketAt}
 use Rattle.questions.specs.declared.Told.the-variants.{Ticket, Refused}
-use Rattle.questions.proofs.Kept.{ready-kept, found-client, found-nobody}
+use Rattle.questions.proofs.Ends.{End, oldestEnd, newestEnd}
+use Rattle.questions.proofs.Kept.{ready-low, ready-kept, found-client, found-nobody}
 use Rattle.questions.proofs.Own.{endOr, end-in, end-map, end-ticket, id-in, count-absent, own-tickets}
 
 has-no : (x : ℕ) (xs : List ℕ) → (In x xs → ⊥) → has x xs ≡ false
@@ -44,8 +43,7 @@ module _ {q : ℕ} {t : List ℕ} (y : Ready q t) (c : ℕ) (i : In c (clientRow
   end-low : {end : ℕ} → End end → clientWord t q c end < q
   end-low {end} e =
       let some = end-in e kind.none rows (counts-one (picture t) (ready-right y) c i) in
-      subst (λ (n : ℕ). clientWord t q c end < n) (y .size)
-      (in-below (picture t .size) rows (ready-holds y .own c i .below) (clientWord t q c end) (rw (end-row e) some))
+      ready-low y rows (ready-holds y .own c i .below) (clientWord t q c end) (rw (end-row e) some)
 
   end-is : {end : ℕ} → End end → itemWord t (clientWord t q c end) kind.ticket ≡ ticketAt end (plain (picture t)) (idOf (picture t .clients) c)
   end-is {end} e =
@@ -70,7 +68,7 @@ module _ {q x r : ℕ} {t : List ℕ} (y : Ready q t) (f : (cs : List ℕ) (C : 
 
   module _ (some : r ≡ kind.none → ⊥) where
     pub found-low : r < q
-    found-low = subst (λ (n : ℕ). r < n) (y .size) (in-below (picture t .size) (clientRows (picture t)) (clients-below (picture t) (ready-right y)) r (found-client y found some .0))
+    found-low = ready-low y (clientRows (picture t)) (clients-below (picture t) (ready-right y)) r (found-client y found some .0)
 
     pub client-counts : {n : ℕ} → n ≡ clientWord t q r kind.count → n ≡ history.countOf (plain (picture t)) x
     client-counts e =

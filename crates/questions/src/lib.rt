@@ -1,4 +1,5 @@
 // The questions on a ready table: heaviest and lightest first, count, oldest and newest. None of them writes a word of the table.
+ghost use mathlib.Core.Bool.{true};
 ghost use mathlib.Core.Path.{_≡_};
 ghost use mathlib.Core.List.{_++_};
 ghost use Prim.Native.Nat.{_*_, _≤_, _<_, min};
@@ -11,7 +12,7 @@ ghost use Rattle.rules.specs.History as history;
 ghost use Rattle.rules.specs.Picture.{plain};
 ghost use Rattle.rules.specs.Sound.{picture};
 ghost use Rattle.rules.specs.Ready.{Ready};
-ghost use Rattle.questions.specs.Ends.{Way, End};
+ghost use Rattle.questions.specs.Ends.{orderEnd, onward, ownEnd};
 ghost use Rattle.questions.specs.Walk.{clientsFrom, pairsFrom};
 ghost use Rattle.questions.specs.Replies.{listedReply, listedWords, listingFrom, toldReply, ticketAt};
 use table::LinkedTable;
@@ -54,7 +55,8 @@ fn list(t: &[u32], q: usize, first: u32, link: usize, n: usize, out: &mut [u32])
 // A listing from the end that the header word `end` holds, by the client word `link`. The smaller of k and the clients is taken before it is doubled.
 fn listing(t: &[u32], q: usize, k: usize, end: usize, link: usize, out: &mut [u32]) -> Listed
     requires { ⌜ Ready q (now t) ⌝ }
-    requires { ⌜ Way end link ⌝ }
+    requires { ⌜ orderEnd end ≡ true ⌝ }
+    requires { ⌜ link ≡ onward end ⌝ }
     ensures reply { λ r. ⌜ r ≡ listedReply k (length (now (out .entry))) (plain (picture (now (t .entry)))) ⌝ }
     ensures words { λ _. ⌜ now (out .exit) ≡ listedWords (listingFrom end) k (plain (picture (now (t .entry)))) (now (out .entry)) ⌝ }
 {
@@ -103,7 +105,7 @@ pub fn count(t: &[u32], q: usize, s: &[u32; 1024], id: u32) -> u32
 fn own_ticket(t: &[u32], q: usize, s: &[u32; 1024], id: u32, end: usize) -> Told
     requires { ⌜ Ready q (now t) ⌝ }
     requires { ⌜ IsSpread (now s) ⌝ }
-    requires { ⌜ End end ⌝ }
+    requires { ⌜ ownEnd end ≡ true ⌝ }
     ensures { λ r. ⌜ r ≡ toldReply (ticketAt end) (plain (picture (now (t .entry)))) id ⌝ }
 {
     let c = lookup::find(t, q, s, id);

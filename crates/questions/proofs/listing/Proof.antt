@@ -1,7 +1,8 @@
 -- A ready table has as many clients as its header says, the links lead from either end through them, and their words are the plain history's pairs.
 use borrow.Author.Needs.{needs}
 use Rattle.rules.proofs.Ready.{ready-sized}
-use Rattle.questions.proofs.Order.{way-end, way-link, listing-refused, listing-low, listing-done}
+use Rattle.questions.proofs.Ends.{way, way-end, way-link}
+use Rattle.questions.proofs.Listings.{listing-refused, listing-low, listing-done}
 use Rattle.questions.proofs.listing.Statement.{statement}
 use Rattle.questions.proofs.listing.Tie as tie
 
@@ -24,10 +25,18 @@ returns c =
     listing-refused _ (start .pre .0) (s .before .header .ensures) (s .smaller .ensures) (start .args .end) _ (c .if1 .taken)
 
 header-requires-2 : tie.Need-header-requires-2
-header-requires-2 c κs = search (ready-sized, way-end, needs)
+header-requires-2 c κs =
+    let start = c .before .before .before .before .before in
+    (ready-sized (start .pre .0), way-end (way (start .pre .1 .0) (start .pre .1 .1)))
 
 list-requires : tie.Need-list-requires
-list-requires c κs = search (ready-sized, way-link, listing-low, needs)
+list-requires c κs =
+    let s = c .before .before .before in
+    let start = s .before .before .before .before in
+    let w = way (start .pre .1 .0) (start .pre .1 .1) in (
+      ready-sized (start .pre .0),
+      ((way-link w, search needs), listing-low _ (start .pre .0) (s .before .header .ensures) (s .smaller .ensures) w (c .before .header2 .ensures)),
+    )
 
 same-length : tie.Need-same-length
 same-length c = search needs
@@ -37,7 +46,7 @@ returns-2 c =
     let h = c .before .before .before .before in
     let s = h .before .before in
     let start = s .before .before .before .before in
-    listing-done _ (start .pre .0) (s .before .header .ensures) (s .smaller .ensures) (start .pre .1) (h .header2 .ensures) _ (h .before .if1 .left) (c .before .before .list .ensures)
+    listing-done _ (start .pre .0) (s .before .header .ensures) (s .smaller .ensures) (way (start .pre .1 .0) (start .pre .1 .1)) (h .header2 .ensures) _ (h .before .if1 .left) (c .before .before .list .ensures)
 
 pub listing-spec : {M : Type 1} → statement M
 listing-spec =
