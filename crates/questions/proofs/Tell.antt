@@ -18,10 +18,11 @@ use Rattle.rules.proofs.Ready.{ready-right, ready-holds}
 use Rattle.lookup.specs.Book as book
 use Rattle.lookup.specs.Book.{Found}
 use Rattle.lookup.specs.View.{Keeps}
+use Rattle.lookup.proofs.Ready.{ready-kept}
 use Rattle.questions.specs.Replies.{toldReply, ticketAt}
 use Rattle.questions.specs.declared.Told.the-variants.{Ticket, Refused}
 use Rattle.questions.proofs.Ends.{End, oldestEnd, newestEnd}
-use Rattle.questions.proofs.Kept.{ready-low, ready-kept, found-client, found-nobody}
+use Rattle.questions.proofs.Kept.{ready-low, found-client, found-nobody}
 use Rattle.questions.proofs.Own.{endOr, end-in, end-map, end-ticket, id-in, count-absent, own-tickets}
 
 has-no : (x : ℕ) (xs : List ℕ) → (In x xs → ⊥) → has x xs ≡ false
