@@ -45,7 +45,9 @@ returns-2 : tie.Need-returns-2
 returns-2 c =
     let h = c .before .before in
     let z = h .before .before .before in
-    listing-answers _ (z .before .before .before .of .ensures) (z .before .before .if1 .left) (z .size .ensures) history.lightest _ _ (h .lightest .ensures .0) (h .lightest .ensures .1)
+    let o = z .before .before .before in
+    let args = o .before .before .before .before .before .args in
+    listing-answers _ (o .of .ensures) (z .before .before .if1 .left) (z .size .ensures) history.lightest (args .k) (args .out .now) (h .lightest .ensures .0) (h .lightest .ensures .1)
 
 pub lightest-spec : {M : Type 1} → statement M
 lightest-spec =
