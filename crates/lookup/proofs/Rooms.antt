@@ -14,7 +14,8 @@ use Rattle.table.specs.Regions.{Sized, clientWord, bucketWord}
 use Rattle.rules.specs.Spread.{bucket}
 use Rattle.lookup.specs.Book.{idOf, nextOf, from, rowsOf, OwnIds, Ends}
 use Rattle.lookup.specs.Check.{chainsOf, Tells, Fits, Fitting, Left, Good, Counted}
-use Rattle.lookup.specs.Laws.Chains.{ends-by, step-on, step-back, rows-more, rows-fewer}
+use Rattle.lookup.specs.Laws.Chains.{ends-by, step-back}
+use Rattle.lookup.specs.Laws.Buckets.{rows-more, rows-fewer}
 use Rattle.lookup.specs.Laws.Checking.{tells-not}
 use Rattle.lookup.specs.View.{Checked, checked}
 use Rattle.lookup.proofs.Walks.{at-none, step}
@@ -68,7 +69,7 @@ left-more {q} {t} {at} b left r z l f w =
           let s = step-back q (omega (arith, z .small)) (nextOf q t) at (f .low) (g .0 .ends) in
           (record { ends = s .here; fits = rw (s .is) (f, g .0 .fits) }, rw (s .is) (omega (arith, g .1)));
       goes = λ g h.
-          let s = step-on q (omega (arith, z .small)) (nextOf q t) at (λ k. omega (arith, f .low, z .small)) (g .ends) in
+          let s = step z (g .ends) (λ k. omega (arith, f .low, z .small)) in
           let rest : Fitting q t b (nextOf q t at) = record { ends = s .on; fits = (rw (s .is) at (g .fits)) .1 } in
           let many = rw (s .is) at h in
           rw (s .is) (omega (arith, w .goes rest (omega (arith, many))));

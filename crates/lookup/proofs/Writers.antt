@@ -16,10 +16,11 @@ use Rattle.rules.specs.Sound.{follow}
 use Rattle.lookup.specs.Book.{book, from, enterAt, enterRow, hook, leaveAt, leaveFrom, leaveRow}
 use Rattle.lookup.specs.Laws.Chains.{follow-agree}
 
--- the hook at an end, and at a row
-
+-- a link that is not none is a row
 pub link-row : {q e : ℕ} → Link q e → (e ≡ kind.none → ⊥) → e < q
 link-row l n = l n
+
+-- the hook at an end, and at a row
 
 pub hook-end : {q : ℕ} {t a : List ℕ} (b e v : ℕ) → q ≤ kind.largest → e ≡ kind.none → Writes q t a (setBucket b v) 1 → Writes q t a (hook b e v) 1
 hook-end {q} b e v hq he w =

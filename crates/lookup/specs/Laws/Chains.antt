@@ -1,10 +1,10 @@
--- Chains of rows: one that ends repeats no row; a step along it; a pointer altered; and the rows of several chains.
+-- One chain: followed it gives its rows, and none twice; a step along it; a pointer altered.
 use mathlib.Core.List.{List, [], _∷_, _++_}
 use mathlib.Core.Bool.{Bool, true, false, cond}
-use mathlib.Core.Path.{_≡_, refl, sym, ap, ap₂, _∙_}
-use mathlib.Core.Logic.{⊎-elim, inl, inr}
+use mathlib.Core.Path.{_≡_, refl, sym, ap, _∙_}
+use mathlib.Core.Logic.{inl, inr}
 use Prim.Native.Nat.{ℕ, zero, suc, _+_, _≤_, _<_}
-use native.Mathlib.Nat.{not-suc-le-zero, le-of-suc-le-suc, suc-inj, add-suc, add-zero, zero-add}
+use native.Mathlib.Nat.{not-suc-le-zero, le-of-suc-le-suc}
 use native.Mathlib.Omega.{arith}
 use lib.Dec.{ltb}
 use lib.ListN.{length, length-append}
@@ -15,8 +15,8 @@ use Rattle.table.proofs.Draw.{at-other}
 use Rattle.rules.specs.Rows.{In, NotIn, Distinct, Below}
 use Rattle.rules.specs.Linked.{Chain}
 use Rattle.rules.specs.Sound.{follow}
-use Rattle.rules.proofs.Rows.{not-both, notin, other, in-left, in-right, in-either, distinct-right, distinct-both, apart-right, below-right, at-most, split-at}
-use Rattle.lookup.specs.Book.{Ends, rowsOf}
+use Rattle.rules.proofs.Rows.{notin, other, below-right, at-most, split-at}
+use Rattle.lookup.specs.Book.{Ends}
 
 -- followed far enough, a chain gives its rows
 pub follow-chain : (q : ℕ) (o : ℕ → ℕ) (k h : ℕ) (xs : List ℕ) → q ≤ kind.none → Below q xs → length xs ≤ k → Chain o h xs → follow q o k h ≡ xs
@@ -95,55 +95,3 @@ module _ (q : ℕ) (hq : q ≤ kind.none) (o : ℕ → ℕ) where
 
   pub step-back : (h : ℕ) → h < q → Ends q o (o h) → Step q o h
   step-back h l e = step-by h (follow q o q (o h)) l (e .below) (e .chain)
-
--- the rows of q chains
-
-pub record Place (q : ℕ) (C : ℕ → List ℕ) (x : ℕ) : Type 0 where
-  pub bucket : ℕ
-  pub low : bucket < q
-  pub there : In x (C bucket)
-
-pub rows-place : (q : ℕ) (C : ℕ → List ℕ) (x : ℕ) → In x (rowsOf q C) → Place q C x
-rows-place zero C x i = absurd i
-rows-place (suc q) C x i =
-    ⊎-elim (λ j. record { bucket = 0; low = omega arith; there = j })
-    (λ j. let p = rows-place q (λ b. C (suc b)) x j in record { bucket = suc (p .bucket); low = omega (arith, p .low); there = p .there })
-    (in-either x (C 0) (rowsOf q (λ b. C (suc b))) i)
-
-pub place-rows : (q : ℕ) (C : ℕ → List ℕ) (x b : ℕ) → b < q → In x (C b) → In x (rowsOf q C)
-place-rows zero C x b h i = absurd (not-suc-le-zero h)
-place-rows (suc q) C x zero h i = in-left x (C 0) (rowsOf q (λ b. C (suc b))) i
-place-rows (suc q) C x (suc b) h i = in-right x (C 0) (rowsOf q (λ b. C (suc b))) (place-rows q (λ b. C (suc b)) x b (le-of-suc-le-suc h) i)
-
--- a row stands in one chain only
-pub place-once : (q : ℕ) (C : ℕ → List ℕ) → Distinct (rowsOf q C) → (x b d : ℕ) → b < q → d < q → In x (C b) → In x (C d) → b ≡ d
-place-once zero C a x b d hb hd i j = absurd (not-suc-le-zero hb)
-place-once (suc q) C a x zero zero hb hd i j = refl
-place-once (suc q) C a x zero (suc d) hb hd i j =
-    absurd (not-both x (C 0) i (apart-right x (C 0) (rowsOf q (λ b. C (suc b))) a (place-rows q (λ b. C (suc b)) x d (le-of-suc-le-suc hd) j)))
-place-once (suc q) C a x (suc b) zero hb hd i j =
-    absurd (not-both x (C 0) j (apart-right x (C 0) (rowsOf q (λ b. C (suc b))) a (place-rows q (λ b. C (suc b)) x b (le-of-suc-le-suc hb) i)))
-place-once (suc q) C a x (suc b) (suc d) hb hd i j =
-    ap suc (place-once q (λ b. C (suc b)) (distinct-right (C 0) (rowsOf q (λ b. C (suc b))) a) x b d (le-of-suc-le-suc hb) (le-of-suc-le-suc hd) i j)
-
-pub rows-apart : (q : ℕ) (C : ℕ → List ℕ) → ((b : ℕ) → b < q → Distinct (C b)) → ((x b d : ℕ) → b < q → d < q → In x (C b) → In x (C d) → b ≡ d) → Distinct (rowsOf q C)
-rows-apart zero C d h = tt
-rows-apart (suc q) C d h =
-    distinct-both (C 0) (rowsOf q (λ b. C (suc b))) (d 0 (omega arith))
-    (rows-apart q (λ b. C (suc b)) (λ b l. d (suc b) (omega arith)) (λ x a b l m i j. suc-inj (h x (suc a) (suc b) (omega arith) (omega arith) i j)))
-    (λ x i j. let p = rows-place q (λ b. C (suc b)) x j in omega (arith, h x 0 (suc (p .bucket)) (omega arith) (omega (arith, p .low)) i (p .there)))
-
--- how many they are
-pub rows-more : (q : ℕ) (C : ℕ → List ℕ) → length (rowsOf (suc q) C) ≡ length (rowsOf q C) + length (C q)
-rows-more zero C = rw (length-append, zero-add, add-zero)
-rows-more (suc q) C =
-    let on : ℕ → List ℕ = λ b. C (suc b) in
-    rw (length-append (C 0) (rowsOf (suc q) on), length-append (C 0) (rowsOf q on), rows-more q on) (omega arith)
-
-pub rows-fewer : (k m : ℕ) (C : ℕ → List ℕ) → length (rowsOf m C) ≤ length (rowsOf (m + k) C)
-rows-fewer zero m C = rw add-zero (omega arith)
-rows-fewer (suc k) m C = rw add-suc (omega (arith, rows-fewer k m C, rows-more (m + k) C))
-
-pub rows-same : (q : ℕ) (C D : ℕ → List ℕ) → ((b : ℕ) → b < q → C b ≡ D b) → rowsOf q C ≡ rowsOf q D
-rows-same zero C D h = refl
-rows-same (suc q) C D h = ap₂ _++_ (h 0 (omega arith)) (rows-same q (λ b. C (suc b)) (λ b. D (suc b)) (λ b l. h (suc b) (omega arith)))

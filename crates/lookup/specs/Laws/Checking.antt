@@ -13,7 +13,7 @@ use Rattle.rules.specs.Spread.{bucket}
 use Rattle.rules.proofs.Rows.{in-below, Within, fewer, all-there, all-in, in-all}
 use Rattle.lookup.specs.Book.{bookOf, idOf, nextOf, rowsOf, Filed}
 use Rattle.lookup.specs.Check.{chainsOf, Waits, Tells, Fits, Good, Counted}
-use Rattle.lookup.specs.Laws.Chains.{rows-place, place-rows, rows-same}
+use Rattle.lookup.specs.Laws.Buckets.{rows-place, place-rows, rows-same}
 use Rattle.lookup.specs.Laws.Filing.{bucket-below, apart-by, nobody-in, home-in, chain-is, chain-ends}
 
 pub tells-not : {so : Type 0} → (so → ⊥) → Tells so false

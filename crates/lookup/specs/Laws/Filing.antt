@@ -17,7 +17,8 @@ use Rattle.rules.specs.Spread.{bucket}
 use Rattle.rules.specs.Draw.{before}
 use Rattle.rules.proofs.Rows.{not-both, notin, other, in-or-not, below-in, past, in-without, notin-without, without-in, without-absent, gone, Within}
 use Rattle.lookup.specs.Book.{Book, book, chain, rowsOf, OwnIds, Filed, Ends, Found, enterRow, leaveAt, leaveRow, put, cut}
-use Rattle.lookup.specs.Laws.Chains.{chain-agree, chain-frame, chain-once, follow-is, ends-by, rows-place, place-rows, place-once, rows-apart}
+use Rattle.lookup.specs.Laws.Chains.{chain-agree, chain-frame, chain-once, follow-is, ends-by}
+use Rattle.lookup.specs.Laws.Buckets.{rows-place, place-rows, place-once, rows-apart}
 
 pub bucket-below : (q x : ℕ) → 0 < q → bucket q x < q
 unfolding bucket
