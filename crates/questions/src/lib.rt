@@ -1,4 +1,5 @@
-// The questions on a ready table: heaviest and lightest first, count, oldest and newest. None of them writes a word of the table.
+// The questions on a table: heaviest and lightest first, count, oldest and newest. None of them writes a word of it.
+// They rest on words that are exactly a sound table (`Ready`) and on the spread table, which is lent down.
 ghost use mathlib.Core.Bool.{true};
 ghost use mathlib.Core.Path.{_≡_};
 ghost use mathlib.Core.List.{_++_};
@@ -52,7 +53,8 @@ fn list(t: &[u32], q: usize, first: u32, link: usize, n: usize, out: &mut [u32])
     }
 }
 
-// A listing from the end that the header word `end` holds, by the client word `link`. The smaller of k and the clients is taken before it is doubled.
+// A listing from the end that the header word `end` holds, by the client word `link`.
+// The smaller of k and the number of clients is taken before anything is doubled.
 fn listing(t: &[u32], q: usize, k: usize, end: usize, link: usize, out: &mut [u32]) -> Listed
     requires { ⌜ Ready q (now t) ⌝ }
     requires { ⌜ orderEnd end ≡ true ⌝ }

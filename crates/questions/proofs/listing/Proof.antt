@@ -33,10 +33,9 @@ list-requires : tie.Need-list-requires
 list-requires c κs =
     let s = c .before .before .before in
     let start = s .before .before .before .before in
-    let w = way (start .pre .1 .0) (start .pre .1 .1) in (
-      ready-sized (start .pre .0),
-      ((way-link w, search needs), listing-low _ (start .pre .0) (s .before .header .ensures) (s .smaller .ensures) w (c .before .header2 .ensures)),
-    )
+    let w = way (start .pre .1 .0) (start .pre .1 .1) in
+    let low = listing-low _ (start .pre .0) (s .before .header .ensures) (s .smaller .ensures) w (c .before .header2 .ensures) in
+    (ready-sized (start .pre .0), ((way-link w, c .before .before .if1 .left), low))
 
 same-length : tie.Need-same-length
 same-length c = search needs
