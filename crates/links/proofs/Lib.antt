@@ -1,0 +1,5 @@
+-- Laws of the lists, and of the code's writes.
+pub mod Lists
+pub mod Strands
+pub mod Pools
+pub mod Views
