@@ -1,0 +1,11 @@
+-- Laws of the waiting items, and of the functions' writes.
+pub mod Items
+pub mod Ends
+pub mod Owner
+pub mod Apart
+pub mod Joined
+pub mod Left
+pub mod Kept
+pub mod Read
+pub mod Writes
+pub mod Shown
