@@ -7,7 +7,7 @@ use Prim.Native.Nat.{ℕ, _<_}
 use native.Mathlib.Omega.{arith}
 use lib.Dec.{lit<}
 use lib.ListN.{length}
-use borrow.Author.Tests.{eq-eqb}
+use borrow.Author.Tests.{eq-eqb, ne-eqb}
 use Rattle.table.specs.Kind as kind
 use Rattle.table.specs.Regions.{Regions, words, regions, clientWord, bucketWord, Sized, Writes}
 use Rattle.table.proofs.Draw.{at-other}
@@ -19,7 +19,7 @@ use Rattle.rules.specs.Tells.{Tells}
 use Rattle.rules.proofs.Rows.{Within, other, in-or-not}
 use Rattle.lookup.specs.Book.{Book, book, bookOf, idOf, nextOf, from, rowsOf, OwnIds, Filed, Ends, Reaches, Found, enterRow, leaveRow, put, cut, withId}
 use Rattle.lookup.specs.Check.{chainsOf, countOf, Waits, Counted}
-use Rattle.lookup.specs.Laws.Filing.{filed-members, filed-agree, filed-none, found-kept, chain-ends, chain-is, enter-filed, leave-filed}
+use Rattle.lookup.specs.Laws.Filing.{filed-members, filed-agree, filed-none, found-kept, chain-ends, chain-is, enter-filed, leave-filed, leave-aside}
 use Rattle.lookup.specs.Laws.Checking.{check-sound, check-complete}
 
 -- the table keeps the clients cs, in the chains C. The field has no `pub`: no other module can look into it
@@ -65,6 +65,18 @@ module _ {q : ℕ} {t cs : List ℕ} {C : ℕ → List ℕ} (k : Keeps q t cs C)
 
   pub kept-chains : Sized q t → (b : ℕ) → b < q → chainsOf q t b ≡ C b
   kept-chains z = chain-is (omega (arith, z .small)) (k .filed)
+
+-- in regions that the table is drawn from
+pub kept-drawn : {q : ℕ} {t cs : List ℕ} {C : ℕ → List ℕ} (R : Regions) → t ≡ words q R → Keeps q t cs C
+    → (b : ℕ) → b < q → Chain (λ r. R .client r kind.nextInBucket) (R .bucket b) (C b)
+kept-drawn {q} R e k =
+    filed-agree
+    (record {
+      id = λ r i l. read-client q R r kind.id e l (lit< tt);
+      next = λ r i l. read-client q R r kind.nextInBucket e l (lit< tt);
+      head = λ b l. read-bucket q R b e l;
+    })
+    (k .filed) .chained
 
 -- and the other way round: words that lie so keep the clients
 pub columns-kept : {q : ℕ} {t cs : List ℕ} {C : ℕ → List ℕ} → Filed q (bookOf q t) cs C → Keeps q t cs C
@@ -127,6 +139,15 @@ module _ {q : ℕ} {a b cs : List ℕ} {C : ℕ → List ℕ} {k : ℕ} (r : ℕ
 
   pub kept-leave : Writes q a b (leaveRow q r) k → In r cs → Distinct cs → Keeps q b (without r cs) (cut r C)
   kept-leave w i d = written z w (leave-filed q (omega (arith, z .small)) (regions q a) cs C r (m .filed) i d)
+
+-- a row that is no client's keeps its next in bucket
+module _ (q : ℕ) (a : List ℕ) (r : ℕ) where
+  pub aside-enter : (x : ℕ) → (x ≡ r → ⊥) → enterRow q r (regions q a) .client x kind.nextInBucket ≡ clientWord a q x kind.nextInBucket
+  aside-enter x n = rw (ne-eqb x r n)
+
+  pub aside-leave : {cs : List ℕ} {C : ℕ → List ℕ} → Sized q a → Keeps q a cs C → In r cs → (x : ℕ) → x < q → NotIn x cs
+      → leaveRow q r (regions q a) .client x kind.nextInBucket ≡ clientWord a q x kind.nextInBucket
+  aside-leave {cs} {C} z m i x l n = leave-aside q (omega (arith, z .small)) (regions q a) cs C r (m .filed) i x l n
 
 -- the word of a row that left
 pub left-word : {q : ℕ} {a b : List ℕ} {k : ℕ} (r : ℕ) → Sized q a → Writes q a b (leaveRow q r) k → r < q → clientWord b q r kind.nextInBucket ≡ 0

@@ -2,7 +2,7 @@
 use mathlib.Core.List.{List, [], _∷_, _++_, map}
 use mathlib.Core.Bool.{Bool, true, false, cond}
 use mathlib.Core.Path.{_≡_, refl, sym, ap, ap₂, _∙_}
-use mathlib.Core.Logic.{inr}
+use mathlib.Core.Logic.{inl, inr}
 use Prim.Native.Nat.{ℕ, _≤_}
 use native.Mathlib.Omega.{arith}
 use lib.Dec.{eqb}
@@ -16,9 +16,9 @@ use Rattle.rules.specs.Picture.{Item, Client, Picture, item, client, ite
 use Rattle.rules.specs.Steps.{withoutItem, admit, known, joinAs, join, dropItem, release, leave}
 use Rattle.rules.specs.Sound.{Right}
 use Rattle.rules.proofs.Choose.{either-way}
-use Rattle.rules.proofs.Put.{Put, here, put-map, put-last, take-all, take-rising, take-out}
-use Rattle.rules.proofs.Rows.{other, meets, head-rest, without-absent, map-snoc, all-so}
-use Rattle.rules.proofs.Look.{find, look-same}
+use Rattle.rules.proofs.Put.{Put, here, put-map, put-last, take-all, take-rising, take-out, put-in}
+use Rattle.rules.proofs.Rows.{not-both, other, meets, head-rest, without-absent, map-snoc, all-so}
+use Rattle.rules.proofs.Look.{find, look-same, look-back}
 use Rattle.rules.proofs.Decide.{has-decides, has-not}
 use Rattle.rules.proofs.Right.{items-distinct, room}
 use Rattle.rules.proofs.Clients.{Standing, rows-distinct, standing, standing-admitted}
@@ -96,6 +96,25 @@ join-step P id ticket v h = go (known id P) refl
     go false e =
         let n = has-not id (map clientId (P .clients)) e in
         rw (eq-eqb id id refl) (step-so (new-plain P id v n (room P v h) ticket) (join-near (admit id P) ticket (near-new P id v n (room P v h)) h))
+
+-- the client that joins by its row: one that waits, or a new one
+module _ (P : Picture) (id ticket : ℕ) where
+  pub join-known : Right P → (r : ℕ) → In r (clientRows P) → idOf (P .clients) r ≡ id → join P id ticket ≡ joinAs (client r id) ticket P
+  unfolding join
+  join-known v r i e =
+      let f = find clientRow r (P .clients) i in
+      let there : In id (map clientId (P .clients)) = put-in id (put-map clientId (f .put)) (inl (sym e ∙ f .look clientId)) in
+      let row : rowOf (P .clients) id ≡ r = ap (rowOf (P .clients)) (sym e) ∙ look-back clientRow clientId (P .clients) (v .ids) r i in
+      rw (has-decides id (map clientId (P .clients)) .1 there, row)
+
+  pub join-new : NotIn id (map clientId (P .clients)) → join P id ticket ≡ joinAs (client (headOr kind.none (P .freeClients)) id) ticket (admit id P)
+  unfolding join
+  join-new n = go (known id P) refl
+    where
+      go : (b : Bool) → known id P ≡ b
+          → joinAs (client (rowOf (cond b P (admit id P) .clients) id) id) ticket (cond b P (admit id P)) ≡ joinAs (client (headOr kind.none (P .freeClients)) id) ticket (admit id P)
+      go true e = absurd (not-both id (map clientId (P .clients)) (has-decides id (map clientId (P .clients)) .0 e) n)
+      go false e = rw (eq-eqb id id refl)
 
 -- a request leaves, and its row is the first free one
 pub leave-frees : (P : Picture) (i : Item) → leave P i .freeItems ≡ i .row ∷ P .freeItems

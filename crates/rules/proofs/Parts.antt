@@ -22,7 +22,8 @@ use Rattle.rules.proofs.Columns.{first-is, last-is}
 use Rattle.rules.proofs.Look.{own-none}
 use Rattle.rules.proofs.Right.{clients-below, counts-one, window-fits}
 
-own-few : (c : ℕ) (w : List Item) → length (ownRows c w) ≤ length w
+-- a client has no more items than wait
+pub own-few : (c : ℕ) (w : List Item) → length (ownRows c w) ≤ length w
 own-few c [] = omega arith
 own-few c (i ∷ w) = go (eqb (i .client) c) (own-few c w)
   where

@@ -1,23 +1,22 @@
--- From the code's promise to a call's: a writer on the drawing of a picture leaves the drawing of the next; and a call's promise by function is that by relation.
+-- From the code's promise to a call's: words that hold the next picture are its drawing; and a call's promise by function is that by relation.
 use mathlib.Core.List.{List}
 use mathlib.Core.Bool.{true}
 use mathlib.Core.Path.{_≡_, sym, ap, _∙_, subst}
 use Prim.Native.Nat.{ℕ}
-use Rattle.table.specs.Regions.{Regions, words, Writes}
+use Rattle.table.specs.Regions.{Regions, words, regions, Sized, Writes}
 use Rattle.table.proofs.Whole.{agree-words}
+use Rattle.table.proofs.Write.{draws}
 use Rattle.rules.specs.Picture.{Picture}
-use Rattle.rules.specs.Draw.{drawn, draw}
+use Rattle.rules.specs.Draw.{draw}
 use Rattle.rules.specs.Sound.{picture, sound, Right, Holds, Shows}
 use Rattle.rules.proofs.Held.{holds-agree}
 use Rattle.rules.proofs.Sound.{draw-shows, shows-draw, picture-draw, shows-picture, draw-sound, sound-right, sound-shows}
 
-pub written : {q : ℕ} {t u : List ℕ} {f : Regions → Regions} {k : ℕ} (P Q : Picture) → Right Q → P .size ≡ q → Q .size ≡ q → t ≡ draw P
-    → Writes q t u f k → Holds (f (drawn P)) Q → u ≡ draw Q
+pub written : {q : ℕ} {t u : List ℕ} {f : Regions → Regions} {k : ℕ} (Q : Picture) → Right Q → Q .size ≡ q → Sized q t
+    → Writes q t u f k → Holds (f (regions q t)) Q → u ≡ draw Q
 unfolding draw
-written {f = f} P Q v p s e w h =
-    w .drawn (drawn P) (e ∙ ap (λ (n : ℕ). words n (drawn P)) p)
-    ∙ ap (λ (n : ℕ). words n (f (drawn P))) (sym s)
-    ∙ agree-words (holds-agree Q v (f (drawn P)) h)
+written {q} {t} {f = f} Q v s z w h =
+    draws z w ∙ ap (λ (n : ℕ). words n (f (regions q t))) (sym s) ∙ agree-words (holds-agree Q v (f (regions q t)) h)
 
 -- of a sound table t that becomes u, by a step that keeps pictures right
 module _ (f : Picture → Picture) (keeps : (P : Picture) → Right P → Right (f P)) (t u : List ℕ) (e : sound t ≡ true) where

@@ -1,20 +1,20 @@
 -- Rows that a step on one list leaves alone: the free ones, the items of other clients, and rows that none of the items has.
-use mathlib.Core.List.{List, _∷_, map}
+use mathlib.Core.List.{List, [], _∷_, _++_, map}
 use mathlib.Core.Path.{_≡_, sym, _∙_}
 use mathlib.Core.Logic.{⊎-elim, inl, inr}
 use Prim.Native.Nat.{ℕ, _≤_}
 use native.Mathlib.Omega.{arith}
 use Rattle.table.specs.Kind as kind
 use Rattle.table.specs.Regions.{Regions, at}
-use Rattle.table.proofs.Draw.{at-other}
+use Rattle.table.proofs.Draw.{at-same, at-other}
 use Rattle.rules.specs.Rows.{In, NotIn, All}
 use Rattle.rules.specs.Picture.{Item, itemRow, ownRows}
 use Rattle.rules.specs.Parts.{Queued}
-use Rattle.rules.proofs.Rows.{other, apart-right, below-right, in-below, all-both, notin-all}
+use Rattle.rules.proofs.Rows.{other, apart-right, below-right, in-below, all-both, all-snoc, notin-all}
 use Rattle.rules.proofs.Look.{own-in, owner-own}
 use Rattle.links.specs.Pools.{freeItems, Free}
 
-module _ {q : ℕ} (hq : q ≤ kind.none) {R : Regions} {w : List Item} {free : List ℕ} (k : Queued q R w free) where
+module _ {q : ℕ} (hq : q ≤ kind.largest) {R : Regions} {w : List Item} {free : List ℕ} (k : Queued q R w free) where
   -- the free rows, as a chain of blank rows
   pub spare : Free freeItems R free
   spare = record { chain = k .chain; zeros = k .idle }
@@ -36,3 +36,8 @@ module _ {q : ℕ} (hq : q ≤ kind.none) {R : Regions} {w : List Item} {free : 
 pub all-at : (o : ℕ → ℕ) (value : Item → ℕ) (r v : ℕ) (w : List Item) → NotIn r (map itemRow w) → All (λ i. o (i .row) ≡ value i) w
     → All (λ i. at o r v (i .row) ≡ value i) w
 all-at o value r v w n = all-both _ _ _ w (λ i m e. at-other o r v (i .row) (λ z. m (sym z)) ∙ e) (notin-all itemRow r w n)
+
+-- and with one more item in that row
+pub all-new : (o : ℕ → ℕ) (value : Item → ℕ) (w : List Item) (i : Item) → NotIn (i .row) (map itemRow w) → All (λ j. o (j .row) ≡ value j) w
+    → All (λ j. at o (i .row) (value i) (j .row) ≡ value j) (w ++ i ∷ [])
+all-new o value w i n a = all-snoc _ w i (all-at o value (i .row) (value i) w n a) (at-same o (i .row) (value i))

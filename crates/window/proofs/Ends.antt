@@ -36,7 +36,7 @@ pub last-snoc : (p r : ℕ) (xs : List ℕ) → lastOr p (xs ++ r ∷ []) ≡ r
 last-snoc p r [] = refl
 last-snoc p r (x ∷ xs) = last-snoc x r xs
 
-module _ (q : ℕ) (hq : q ≤ kind.none) where
+module _ (q : ℕ) (hq : q ≤ kind.largest) where
   -- a row is not none
   pub not-none : (x : ℕ) → x < q → kind.none ≡ x → ⊥
   not-none x h e = omega arith

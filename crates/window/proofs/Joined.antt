@@ -1,5 +1,5 @@
 -- A join: the waiting items with one more at the end, and the free rows without the first.
-use mathlib.Core.List.{List, [], _∷_, _++_, map, append-nil, append-assoc}
+use mathlib.Core.List.{List, [], _∷_, _++_, map, append-assoc}
 use mathlib.Core.Path.{_≡_, refl, sym, subst}
 use mathlib.Core.Logic.{inl, inr}
 use Prim.Native.Nat.{ℕ, _+_, _≤_, _<_}
@@ -10,9 +10,10 @@ use lib.ListN.{length, length-append}
 use borrow.Author.Tests.{eq-eqb, ne-eqb}
 use Rattle.table.specs.Kind as kind
 use Rattle.table.specs.Regions.{Regions}
-use Rattle.table.proofs.Draw.{at-same, cond-same}
+use Rattle.table.proofs.Draw.{cond-same}
 use Rattle.rules.specs.Rows.{headOr, lastOr, rest, In, NotIn}
 use Rattle.rules.specs.Linked as linked
+use Rattle.rules.specs.Linked.{Linked}
 use Rattle.rules.specs.Picture.{Item, item, itemRow, ownRows}
 use Rattle.rules.specs.Parts.{Own, Queued}
 use Rattle.rules.proofs.Put.{put-last}
@@ -21,15 +22,15 @@ use Rattle.rules.proofs.Columns.{last-is}
 use Rattle.rules.proofs.Look.{own-kept, own-out}
 use Rattle.links.specs.Steps.{ended}
 use Rattle.links.proofs.Pools.{spare-take, spare-so}
-use Rattle.links.proofs.Lists.{insert-linked, insert-last, insert-apart}
+use Rattle.links.proofs.Lists.{insert-last, insert-apart}
 use Rattle.window.specs.Steps.{joined}
 use Rattle.window.proofs.Items.{own-snoc}
 use Rattle.window.proofs.Ends.{own-ends, first-snoc, last-snoc}
-use Rattle.window.proofs.Apart.{free-apart, free-own, owners-apart, all-at, spare}
+use Rattle.window.proofs.Apart.{free-apart, free-own, owners-apart, all-new, spare}
 
-module _ (q : ℕ) (hq : q ≤ kind.none) (R : Regions) (w : List Item) (free : List ℕ) (c ticket e : ℕ) (hc : c < q) (he : e ≡ lastOr kind.none (ownRows c w))
+module _ (q : ℕ) (hq : q ≤ kind.largest) (R : Regions) (w : List Item) (free : List ℕ) (c ticket e : ℕ) (hc : c < q) (he : e ≡ lastOr kind.none (ownRows c w))
     (k : Queued q R w (R .header kind.freeItemAt ∷ free)) where
-  -- the row that is taken, and the item in it
+  -- the row that is taken, the item in it, and the table then
   abbrev r : ℕ
   r = R .header kind.freeItemAt
 
@@ -44,6 +45,9 @@ module _ (q : ℕ) (hq : q ≤ kind.none) (R : Regions) (w : List Item) (free : 
 
   fresh : NotIn r (map itemRow w)
   fresh = apart-right r (map itemRow w) (r ∷ free) (k .each .distinct) (inl refl)
+
+  in-window : Linked q (linked.window S) (map itemRow w ++ r ∷ [])
+  in-window = insert-last q hq (linked.window R) r (map itemRow w) fresh row (k .window)
 
   -- the newest of the client before, a row of its own or none
   before : In e (kind.none ∷ ownRows c w)
@@ -62,12 +66,14 @@ module _ (q : ℕ) (hq : q ≤ kind.none) (R : Regions) (w : List Item) (free : 
         cond-same,
       )
 
+  -- the client's own list, and everybody else's
   mine : Own q S c (ownRows c w ++ r ∷ [])
   mine =
       let xs = ownRows c w in
       let u = k .own c hc in
+      let L = ended (linked.own c R) (headOr kind.none xs) (lastOr kind.none xs) in
       record {
-        linked = own-ends (insert-linked q hq (ended (linked.own c R) (headOr kind.none xs) (lastOr kind.none xs)) r e kind.none xs [] he refl (rw append-nil (own-out c r w fresh)) row (rw append-nil (u .linked)));
+        linked = rw he (own-ends (insert-last q hq L r xs (own-out c r w fresh) row (u .linked)));
         oldest = simp (eq-eqb c c refl) (first-snoc q hq e r (R .client c kind.oldest) xs (u .linked .below) he (u .oldest));
         newest = simp (eq-eqb c c refl) (sym (last-snoc 0 r xs));
       }
@@ -87,9 +93,9 @@ module _ (q : ℕ) (hq : q ≤ kind.none) (R : Regions) (w : List Item) (free : 
       let spared = spare-so (S .item) free-kept (spare-take (spare hq k) .1) in
       record {
         waiting = omega (arith, k .waiting, length-append w (new ∷ []));
-        window = rw (map-snoc itemRow w new) (insert-last q hq (linked.window R) r (map itemRow w) fresh row (k .window));
-        owner = all-snoc _ w new (all-at (λ x. R .item x kind.owner) (λ i. i .client) r c w fresh (k .owner)) (at-same (λ x. R .item x kind.owner) r c);
-        ticket = all-snoc _ w new (all-at (λ x. R .item x kind.ticket) (λ i. i .ticket) r ticket w fresh (k .ticket)) (at-same (λ x. R .item x kind.ticket) r ticket);
+        window = rw (map-snoc itemRow w new) in-window;
+        owner = all-new (λ x. R .item x kind.owner) (λ i. i .client) w new fresh (k .owner);
+        ticket = all-new (λ x. R .item x kind.ticket) (λ i. i .ticket) w new fresh (k .ticket);
         owners = all-snoc _ w new (k .owners) hc;
         own = λ d hd.
             elim (ℕ-discrete c d) [
@@ -101,8 +107,9 @@ module _ (q : ℕ) (hq : q ≤ kind.none) (R : Regions) (w : List Item) (free : 
         idle = spared .zeros;
       }
 
-pub joined-queued : {q : ℕ} {R : Regions} {w : List Item} {free : List ℕ} → q ≤ kind.none → (c ticket e : ℕ) → c < q → e ≡ lastOr kind.none (ownRows c w) → 1 ≤ length free
-    → Queued q R w free → Queued q (joined c ticket e R) (w ++ item (headOr kind.none free) c ticket ∷ []) (rest free)
+pub joined-queued : {q : ℕ} {R : Regions} {w : List Item} {free : List ℕ} → q ≤ kind.largest → (c ticket e : ℕ) → c < q
+    → e ≡ lastOr kind.none (ownRows c w) → 1 ≤ length free → Queued q R w free
+    → Queued q (joined c ticket e R) (w ++ item (headOr kind.none free) c ticket ∷ []) (rest free)
 joined-queued {free = []} hq c ticket e hc he h k = absurd (not-suc-le-zero h)
 joined-queued {q} {R} {w} {free = x ∷ free} hq c ticket e hc he h k =
     let z = k .chain .0 in

@@ -1,11 +1,13 @@
 -- Each layer leaves the other's words alone: what any step that does not write the waiting items keeps, and what a join and a leave keep.
 use mathlib.Core.List.{List, [], _∷_}
 use mathlib.Core.Path.{_≡_, refl}
+use mathlib.Core.Bool.{false}
 use Prim.Native.Nat.{ℕ}
+use lib.Dec.{eqb}
 use borrow.Author.Tests.{ne-eqb}
 use Rattle.table.specs.Kind as kind
 use Rattle.table.specs.Regions.{Regions}
-use Rattle.rules.specs.Rows.{NotIn}
+use Rattle.rules.specs.Rows.{NotIn, All}
 use Rattle.rules.specs.Picture.{Item}
 use Rattle.rules.specs.Parts.{Queued}
 use Rattle.window.specs.Steps.{joined, left}
@@ -30,18 +32,29 @@ queued-kept i o n r f b h k =
       idle = rw i (k .idle);
     }
 
--- every word but those of the waiting items
+-- the words of the header and of a client row that the waiting items have
+abbrev pub headerWords : List ℕ
+headerWords = kind.requestsAt ∷ kind.frontAt ∷ kind.backAt ∷ kind.freeItemAt ∷ []
+
+abbrev pub clientWords : List ℕ
+clientWords = kind.oldest ∷ kind.newest ∷ []
+
+-- every other word but the item rows' is as it was
 pub record Keeps (R S : Regions) : Type 0 where
-  pub header : (f : ℕ) → NotIn f (kind.requestsAt ∷ kind.frontAt ∷ kind.backAt ∷ kind.freeItemAt ∷ []) → S .header f ≡ R .header f
-  pub client : (c f : ℕ) → NotIn f (kind.oldest ∷ kind.newest ∷ []) → S .client c f ≡ R .client c f
+  pub header : (f : ℕ) → NotIn f headerWords → S .header f ≡ R .header f
+  pub client : (c f : ℕ) → NotIn f clientWords → S .client c f ≡ R .client c f
   pub count : S .count ≡ R .count
   pub bucket : S .bucket ≡ R .bucket
+
+others : (f : ℕ) (xs : List ℕ) → NotIn f xs → All (λ x. eqb f x ≡ false) xs
+others f [] n = tt
+others f (x ∷ xs) n = (ne-eqb f x (n .0), others f xs (n .1))
 
 pub joined-keeps : (c ticket e : ℕ) (R : Regions) → Keeps R (joined c ticket e R)
 joined-keeps c ticket e R =
     record {
-      header = λ f n. simp (ne-eqb f kind.requestsAt (n .0), ne-eqb f kind.frontAt (n .1 .0), ne-eqb f kind.backAt (n .1 .1 .0), ne-eqb f kind.freeItemAt (n .1 .1 .1 .0));
-      client = λ x f n. simp (ne-eqb f kind.oldest (n .0), ne-eqb f kind.newest (n .1 .0));
+      header = λ f n. let o = others f headerWords n in simp (o .0, o .1 .0, o .1 .1 .0, o .1 .1 .1 .0);
+      client = λ x f n. let o = others f clientWords n in simp (o .0, o .1 .0);
       count = refl;
       bucket = refl;
     }
@@ -49,8 +62,8 @@ joined-keeps c ticket e R =
 pub left-keeps : (r : ℕ) (R : Regions) → Keeps R (left r R)
 left-keeps r R =
     record {
-      header = λ f n. simp (ne-eqb f kind.requestsAt (n .0), ne-eqb f kind.frontAt (n .1 .0), ne-eqb f kind.backAt (n .1 .1 .0), ne-eqb f kind.freeItemAt (n .1 .1 .1 .0));
-      client = λ x f n. simp (ne-eqb f kind.oldest (n .0), ne-eqb f kind.newest (n .1 .0));
+      header = λ f n. let o = others f headerWords n in simp (o .0, o .1 .0, o .1 .1 .0, o .1 .1 .1 .0);
+      client = λ x f n. let o = others f clientWords n in simp (o .0, o .1 .0);
       count = refl;
       bucket = refl;
     }

@@ -29,10 +29,11 @@ use Rattle.window.proofs.Ends.{own-ends, end-first, end-last}
 use Rattle.window.proofs.Owner.{owner-is, own-rows, own-list}
 use Rattle.window.proofs.Apart.{free-apart, free-own, owners-apart, all-at, spare}
 
-unlink-put : (q : ℕ) → q ≤ kind.none → (L : Links) {r : ℕ} {xs ys : List ℕ} → Put r xs ys → Linked q L ys → Linked q (unlink r L) xs
+-- a row goes out of a linked list
+unlink-put : (q : ℕ) → q ≤ kind.largest → (L : Links) {r : ℕ} {xs ys : List ℕ} → Put r xs ys → Linked q L ys → Linked q (unlink r L) xs
 unlink-put q hq L {r} {xs} {ys} p k = subst (Linked q (unlink r L)) (put-without p (k .distinct)) (unlink-in q hq L r ys (put-in r p (inl refl)) k)
 
-module _ (q : ℕ) (hq : q ≤ kind.none) (R : Regions) (i : Item) (v w : List Item) (free : List ℕ) (p : Put i v w) (k : Queued q R w free) where
+module _ (q : ℕ) (hq : q ≤ kind.largest) (R : Regions) (i : Item) (v w : List Item) (free : List ℕ) (p : Put i v w) (k : Queued q R w free) where
   abbrev r : ℕ
   r = i .row
 
@@ -40,11 +41,19 @@ module _ (q : ℕ) (hq : q ≤ kind.none) (R : Regions) (i : Item) (v w : List I
   abbrev c : ℕ
   c = R .item r kind.owner
 
+  -- the table then
   abbrev S : Regions
   S = left r R
 
   rows : Put r (map itemRow v) (map itemRow w)
   rows = put-map itemRow p
+
+  -- in its lists before, in the window no more
+  there : In r (map itemRow w)
+  there = put-in r rows (inl refl)
+
+  own-in : In r (ownRows c w)
+  own-in = put-in r (own-rows p k) (inl refl)
 
   gone : NotIn r (map itemRow v)
   gone = take-distinct rows (k .window .distinct) .0
@@ -52,8 +61,8 @@ module _ (q : ℕ) (hq : q ≤ kind.none) (R : Regions) (i : Item) (v w : List I
   -- the free rows are as they were
   free-kept : (x f : ℕ) → In x free → R .item x f ≡ leaveLists r R .item x f
   free-kept x f j =
-      let near = neighbours (k .window) r (put-in r rows (inl refl)) in
-      let own-near = neighbours (own-list p k) r (put-in r (own-rows p k) (inl refl)) in
+      let near = neighbours (k .window) r there in
+      let own-near = neighbours (own-list p k) r own-in in
       simp (
         ne-eqb x (R .item r kind.earlier) (free-apart hq k x _ j (near .0)),
         ne-eqb x (R .item r kind.later) (free-apart hq k x _ j (near .1)),
@@ -64,9 +73,10 @@ module _ (q : ℕ) (hq : q ≤ kind.none) (R : Regions) (i : Item) (v w : List I
 
   freed : Free freeItems S (r ∷ free)
   freed =
-      let taken = notin r free (λ j. free-apart hq k r r j (inr (put-in r rows (inl refl))) refl) in
-      spare-free r taken (spare-so (leaveLists r R .item) free-kept (spare hq k))
+      let waits = notin r free (λ j. free-apart hq k r r j (inr there) refl) in
+      spare-free r waits (spare-so (leaveLists r R .item) free-kept (spare hq k))
 
+  -- the client's own list, and everybody else's
   mine : Own q S c (ownRows c v)
   mine =
       let out = take-distinct (own-rows p k) (own-list p k .distinct) .0 in
@@ -83,7 +93,7 @@ module _ (q : ℕ) (hq : q ≤ kind.none) (R : Regions) (i : Item) (v w : List I
       let u = k .own d hd in
       let stranger : NotIn r xs = rw (own-kept d p (λ z. n (owner-is p k ∙ z))) (own-out d r v gone) in
       record {
-        linked = elsewhere r 0 r 0 stranger stranger (unlink-apart q hq (ownRows c w) xs (owners-apart hq k c d n) (linked.own c R) r _ _ (put-in r (own-rows p k) (inl refl)) (own-list p k) (u .linked));
+        linked = elsewhere r 0 r 0 stranger stranger (unlink-apart q hq (ownRows c w) xs (owners-apart hq k c d n) (linked.own c R) r _ _ own-in (own-list p k) (u .linked));
         oldest = simp (ne-eqb d c (λ z. n (sym z))) (u .oldest);
         newest = simp (ne-eqb d c (λ z. n (sym z))) (u .newest);
       }
@@ -106,7 +116,7 @@ module _ (q : ℕ) (hq : q ≤ kind.none) (R : Regions) (i : Item) (v w : List I
         idle = freed .zeros;
       }
 
-pub left-queued : {q : ℕ} {R : Regions} {w : List Item} {free : List ℕ} → q ≤ kind.none → (r : ℕ) → In r (map itemRow w) → Queued q R w free
+pub left-queued : {q : ℕ} {R : Regions} {w : List Item} {free : List ℕ} → q ≤ kind.largest → (r : ℕ) → In r (map itemRow w) → Queued q R w free
     → Queued q (left r R) (withoutItem r w) (r ∷ free)
 left-queued {q} {R} {w} {free} hq r h k =
     let f = find itemRow r w h in

@@ -7,5 +7,6 @@ pub mod Joined
 pub mod Left
 pub mod Kept
 pub mod Read
+pub mod Leaving
 pub mod Writes
 pub mod Shown

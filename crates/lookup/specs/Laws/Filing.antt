@@ -229,6 +229,13 @@ module _ (q : ℕ) (hq : q ≤ kind.none) (R : Regions) (cs : List ℕ) (C : ℕ
           let out : NotIn r (C j) = elsewhere j r h n (inr stood) in
           rw (without-absent r (C j) out) (chain-frame o r 0 (R .bucket j) (C j) out (chain-frame (book R .next) e _ (R .bucket j) (C j) was (F .chained j h)))
 
+  -- a row that is no client's keeps its word
+  left-aside : (e x : ℕ) → e ≡ before 0 kind.none (C b) r → x < q → NotIn x cs → leaveAt b e r R .client x kind.nextInBucket ≡ R .client x kind.nextInBucket
+  left-aside e x f l n =
+      let near : In e (kind.none ∷ C b) = rw f (before-in 0 kind.none r (C b) stood) in
+      let not-e : x ≡ e → ⊥ = λ z. ⊎-elim (λ w. omega (arith, z, w)) (λ k. not-both x cs (nobody-in F b x low (rw z k)) n) near in
+      rw (ne-eqb x r (λ z. other x r cs n here z), ne-eqb x e not-e)
+
   leave-at : (e : ℕ) → e ≡ before 0 kind.none (C b) r → Distinct cs → Filed q (book (leaveAt b e r R)) (without r cs) (cut r C)
   leave-at e f d =
       let was : Within (without r cs) cs = λ x. in-without r x cs in
@@ -240,7 +247,18 @@ module _ (q : ℕ) (hq : q ≤ kind.none) (R : Regions) (cs : List ℕ) (C : ℕ
       (λ x y i k. F .ids x y (was x i) (was y k))
       (λ x i. F .below x (was x i))
 
-pub leave-filed : (q : ℕ) → q ≤ kind.none → (R : Regions) (cs : List ℕ) (C : ℕ → List ℕ) (r : ℕ) → Filed q (book R) cs C → In r cs → Distinct cs → Filed q (book (leaveRow q r R)) (without r cs) (cut r C)
-leave-filed q hq R cs C r F here d =
-    let low : bucket q (R .client r kind.id) < q = bucket-below q (R .client r kind.id) (omega (arith, F .below r here)) in
-    leave-at q hq R cs C r F here (bucket q (R .client r kind.id)) refl low _ (ap (λ (xs : List ℕ). before 0 kind.none xs r) (chain-is hq F (bucket q (R .client r kind.id)) low)) d
+module _ (q : ℕ) (hq : q ≤ kind.none) (R : Regions) (cs : List ℕ) (C : ℕ → List ℕ) (r : ℕ) (F : Filed q (book R) cs C) (here : In r cs) where
+  abbrev home : ℕ
+  home = bucket q (R .client r kind.id)
+
+  low : home < q
+  low = bucket-below q (R .client r kind.id) (omega (arith, F .below r here))
+
+  behind : before 0 kind.none (chain q (book R) home) r ≡ before 0 kind.none (C home) r
+  behind = ap (λ (xs : List ℕ). before 0 kind.none xs r) (chain-is hq F home low)
+
+  pub leave-filed : Distinct cs → Filed q (book (leaveRow q r R)) (without r cs) (cut r C)
+  leave-filed d = leave-at q hq R cs C r F here home refl low _ behind d
+
+  pub leave-aside : (x : ℕ) → x < q → NotIn x cs → leaveRow q r R .client x kind.nextInBucket ≡ R .client x kind.nextInBucket
+  leave-aside x l n = left-aside q hq R cs C r F here home refl low _ x behind l n

@@ -17,7 +17,8 @@ enter-item-requires c κs =
     let k = c .before .before .before in
     let s = k .before .before .before .before .before in
     let m = s .pre .1 .1 in
-    (k .take-item .ensures .1 .1, ((omega (arith, k .take-item .ensures .0, free-row m), s .pre .1 .0), (newest-link m (s .pre .1 .0), back-link m _ (k .take-item .ensures .1 .0))))
+    let took = k .take-item .ensures in
+    (took .1 .1, ((omega (arith, took .0, free-row m), s .pre .1 .0), (newest-link m (s .pre .1 .0), back-link m _ (took .1 .0))))
 
 add-set-header : tie.Need-add-set-header
 add-set-header c =

@@ -1,8 +1,7 @@
 -- `window::leave_own` meets its contract: with no neighbour the client's words are 0, else they stay rows. Assumes nothing.
-use mathlib.Core.Path.{sym, _∙_}
 use mathlib.Core.Logic.{⊎-elim}
 use borrow.Author.Tests.{eqb-true, eqb-false}
-use Rattle.window.proofs.Writes.{leave-alone, leave-others}
+use Rattle.window.proofs.Leaving.{leave-alone, leave-others}
 use borrow.Author.Needs.{needs}
 use Rattle.window.proofs.leave_own.Statement.{statement}
 use Rattle.window.proofs.leave_own.Tie as tie
@@ -29,7 +28,8 @@ returns c =
     let i2 = two .before .before in
     let i1 = i2 .before .before in
     let s = i1 .before .before .before in (
-      leave-alone _ (search needs) _ _ (s .pre .1 .0 .1) (sym (i1 .item .ensures) ∙ two .before .if1 .taken) (sym (i2 .item2 .ensures) ∙ eqb-true _ _ (two .if2 .taken)) (k .no-own .ensures .0),
+      leave-alone _ (s .pre .0 .small) _ _ (s .pre .1 .0 .1) _ _ (i1 .item .ensures) (i2 .item2 .ensures)
+          (two .before .if1 .taken) (eqb-true _ _ (two .if2 .taken)) (k .no-own .ensures .0),
       k .no-own .ensures .1,
     )
 
@@ -43,8 +43,8 @@ returns-2 c =
     let i2 = j .before in
     let i1 = i2 .before .before in
     let s = i1 .before .before .before in (
-      leave-others _ (search needs) _ _ (s .pre .1 .0 .1) (s .pre .1 .0 .0) (s .pre .1 .1 .1 .0) (s .pre .1 .1 .1 .1)
-          (λ e l. ⊎-elim (λ a. eqb-false _ _ (a .1 .left) (i2 .item2 .ensures ∙ l)) (λ a. a .left (i1 .item .ensures ∙ e)) (j .if1 .came)) (k .unlink-own .ensures .0),
+      leave-others _ (s .pre .0 .small) _ _ (s .pre .1 .0 .1) _ _ (i1 .item .ensures) (i2 .item2 .ensures) (s .pre .1 .0 .0) (s .pre .1 .1 .1 .0) (s .pre .1 .1 .1 .1)
+          (λ e l. ⊎-elim (λ a. eqb-false _ _ (a .1 .left) l) (λ a. a .left e) (j .if1 .came)) (k .unlink-own .ensures .0),
       k .unlink-own .ensures .1,
     )
 

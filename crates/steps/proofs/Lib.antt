@@ -1,0 +1,3 @@
+-- Laws of the steps on ready tables.
+pub mod Around
+pub mod Clients
