@@ -19,7 +19,7 @@ use Rattle.rules.specs.Tells.{Tells}
 use Rattle.rules.proofs.Rows.{Within, other, in-or-not}
 use Rattle.lookup.specs.Book.{Book, book, bookOf, idOf, nextOf, from, rowsOf, OwnIds, Filed, Ends, Reaches, Found, enterRow, leaveRow, put, cut, withId}
 use Rattle.lookup.specs.Check.{chainsOf, countOf, Waits, Counted}
-use Rattle.lookup.specs.Laws.Filing.{filed-members, filed-agree, filed-none, found-kept, chain-ends, chain-is, enter-filed, leave-filed, leave-aside}
+use Rattle.lookup.specs.Laws.Filing.{filed-members, filed-agree, filed-none, found-kept, chain-ends, chain-is, enter-filed, leave-filed, left-aside}
 use Rattle.lookup.specs.Laws.Checking.{check-sound, check-complete}
 
 -- the table keeps the clients cs, in the chains C. The field has no `pub`: no other module can look into it
@@ -140,18 +140,17 @@ module _ {q : ℕ} {a b cs : List ℕ} {C : ℕ → List ℕ} {k : ℕ} (r : ℕ
   pub kept-leave : Writes q a b (leaveRow q r) k → In r cs → Distinct cs → Keeps q b (without r cs) (cut r C)
   kept-leave w i d = written z w (leave-filed q (omega (arith, z .small)) (regions q a) cs C r (m .filed) i d)
 
--- a row that is no client's keeps its next in bucket
-module _ (q : ℕ) (a : List ℕ) (r : ℕ) where
-  pub aside-enter : (x : ℕ) → (x ≡ r → ⊥) → enterRow q r (regions q a) .client x kind.nextInBucket ≡ clientWord a q x kind.nextInBucket
-  aside-enter x n = rw (ne-eqb x r n)
+-- the next in bucket of a row that left is 0; a row that is no client's keeps its own
+module _ (q r : ℕ) (R : Regions) where
+  pub left-zero : leaveRow q r R .client r kind.nextInBucket ≡ 0
+  left-zero = rw (eq-eqb r r refl)
 
-  pub aside-leave : {cs : List ℕ} {C : ℕ → List ℕ} → Sized q a → Keeps q a cs C → In r cs → (x : ℕ) → x < q → NotIn x cs
-      → leaveRow q r (regions q a) .client x kind.nextInBucket ≡ clientWord a q x kind.nextInBucket
-  aside-leave {cs} {C} z m i x l n = leave-aside q (omega (arith, z .small)) (regions q a) cs C r (m .filed) i x l n
+  pub enter-aside : (x : ℕ) → (x ≡ r → ⊥) → enterRow q r R .client x kind.nextInBucket ≡ R .client x kind.nextInBucket
+  enter-aside x n = rw (ne-eqb x r n)
 
--- the word of a row that left
-pub left-word : {q : ℕ} {a b : List ℕ} {k : ℕ} (r : ℕ) → Sized q a → Writes q a b (leaveRow q r) k → r < q → clientWord b q r kind.nextInBucket ≡ 0
-left-word r z w h = word-after z w r kind.nextInBucket h (lit< tt) ∙ rw (eq-eqb r r refl)
+pub leave-aside : {q : ℕ} {a cs : List ℕ} {C : ℕ → List ℕ} (r : ℕ) → Sized q a → Keeps q a cs C → In r cs → (x : ℕ) → x < q → NotIn x cs
+    → leaveRow q r (regions q a) .client x kind.nextInBucket ≡ clientWord a q x kind.nextInBucket
+leave-aside {q} {a} {cs} {C} r z m i x l n = left-aside q (omega (arith, z .small)) (regions q a) cs C r (m .filed) i x l n
 
 -- the check
 

@@ -123,6 +123,16 @@ leave-frees P i =
     either-way (λ J. J .freeItems ≡ i .row ∷ P .freeItems) (eqb (countOf (dropItem i P .window) (i .client)) 0)
     {x = release (i .client) (dropItem i P)} {y = dropItem i P} refl refl
 
+-- its client stays, or goes with it
+module _ (P : Picture) (i : Item) where
+  pub leave-last : countOf (withoutItem (i .row) (P .window)) (i .client) ≡ 0 → leave P i ≡ release (i .client) (dropItem i P)
+  unfolding leave
+  leave-last z = rw (eq-eqb (countOf (withoutItem (i .row) (P .window)) (i .client)) 0 z)
+
+  pub leave-more : (countOf (withoutItem (i .row) (P .window)) (i .client) ≡ 0 → ⊥) → leave P i ≡ dropItem i P
+  unfolding leave
+  leave-more n = rw (ne-eqb (countOf (withoutItem (i .row) (P .window)) (i .client)) 0 n)
+
 pub leave-step : (P : Picture) (i : Item) (v : List Item) → Right P → Put i v (P .window)
     → Step (P .size) (changed (idOf (P .clients) (i .client)) (map (requestOf (P .clients)) v) (plain P)) (leave P i)
 unfolding leave

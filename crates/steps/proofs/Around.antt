@@ -61,7 +61,7 @@ queued-beside b =
     (b .header kind.freeItemAt (λ e. omega (arith, e)) (λ e. omega (arith, e)) (λ e. omega (arith, e)) (λ e. omega (arith, e)))
 
 -- and the window's steps the rest: together they hold the picture
-module _ {q : ℕ} {T S : Regions} {Q : Picture} (k : Keeps T S) where
+module _ {T S : Regions} (k : Keeps T S) where
   header-kept : (f : ℕ) → (f ≡ kind.requestsAt → ⊥) → (f ≡ kind.frontAt → ⊥) → (f ≡ kind.backAt → ⊥) → (f ≡ kind.freeItemAt → ⊥) → S .header f ≡ T .header f
   header-kept f a b c d = k .header f (a, (b, (c, (d, tt))))
 
@@ -85,8 +85,8 @@ module _ {q : ℕ} {T S : Regions} {Q : Picture} (k : Keeps T S) where
         ends = sym (k .count);
       }
 
-  pub others-hold : Right Q → Q .size ≡ q → Others q T Q → Queued q S (Q .window) (Q .freeItems) → Holds S Q
-  others-hold v e o w =
+  pub others-hold : {q : ℕ} {Q : Picture} → Right Q → Q .size ≡ q → Others q T Q → Queued q S (Q .window) (Q .freeItems) → Holds S Q
+  others-hold {q} {Q} v e o w =
       parts-hold Q v S
       (subst (λ (n : ℕ). Ordered n S (clientRows Q) (countOf (Q .window)) (Q .freeClients)) (sym e) (ordered-so alike (o .ordered)))
       (subst (λ (n : ℕ). Queued n S (Q .window) (Q .freeItems)) (sym e) w)

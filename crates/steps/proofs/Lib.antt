@@ -1,3 +1,5 @@
 -- Laws of the steps on ready tables.
 pub mod Around
 pub mod Clients
+pub mod Joining
+pub mod Leaving

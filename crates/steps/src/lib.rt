@@ -1,12 +1,12 @@
 // Join and leave on a ready table, and with them arrive, slide and serve: the order of clients and the window, one after the other.
-ghost use mathlib.Core.List.{map};
 ghost use mathlib.Core.Path.{_≡_};
 ghost use Prim.Native.Nat.{_≤_};
 ghost use lib.ListN.{length};
-ghost use Rattle.table.specs.Regions.{altered};
+ghost use Rattle.table.specs.Kind as kind;
+ghost use Rattle.table.specs.Regions.{altered, itemWord, clientWord};
 ghost use Rattle.rules.specs.Rows.{In};
 ghost use Rattle.rules.specs.Spread.{IsSpread};
-ghost use Rattle.rules.specs.Picture.{Picture, clientRows, itemRows};
+ghost use Rattle.rules.specs.Picture.{clientRows, itemRows};
 ghost use Rattle.rules.specs.Steps as steps;
 ghost use Rattle.rules.specs.Draw.{draw};
 ghost use Rattle.rules.specs.Sound.{picture};
@@ -32,7 +32,7 @@ fn join_known(t: &mut [u32], q: usize, c: u32, id: u32, ticket: u32)
 fn join_new(t: &mut [u32], q: usize, s: &[u32; 1024], id: u32, ticket: u32)
     requires { ⌜ Ready q (now t) ⌝ }
     requires { ⌜ IsSpread (now s) ⌝ }
-    requires { ⌜ Found (idOf q (now t)) (clientRows (picture (now t))) id LinkedTable::NONE ⌝ }
+    requires { ⌜ Found (idOf q (now t)) (clientRows (picture (now t))) id kind.none ⌝ }
     requires { ⌜ 1 ≤ length (picture (now t) .freeItems) ⌝ }
     ensures { λ _. ⌜ now (t .exit) ≡ draw (steps.join (picture (now (t .entry))) id ticket) ⌝ }
     ensures { λ _. ⌜ altered (now (t .entry)) (now (t .exit)) ≤ 24 ⌝ }
@@ -57,7 +57,32 @@ pub fn join(t: &mut [u32], q: usize, s: &[u32; 1024], c: u32, id: u32, ticket: u
     }
 }
 
-// The request in item row r leaves; with its last one its client does.
+// The only request of client c, in item row r, leaves, and with it the client.
+fn leave_last(t: &mut [u32], q: usize, s: &[u32; 1024], c: u32, r: u32)
+    requires { ⌜ Ready q (now t) ⌝ }
+    requires { ⌜ IsSpread (now s) ⌝ }
+    requires { ⌜ In r (itemRows (picture (now t))) × (itemWord (now t) r kind.owner ≡ c) ⌝ }
+    requires { ⌜ clientWord (now t) q c kind.count ≡ 1 ⌝ }
+    ensures { λ _. ⌜ now (t .exit) ≡ draw (steps.leave (picture (now (t .entry))) (itemIn r (picture (now (t .entry)) .window))) ⌝ }
+    ensures { λ _. ⌜ altered (now (t .entry)) (now (t .exit)) ≤ 24 ⌝ }
+{
+    order::dismiss(t, q, s, c);
+    window::leave(t, q, r);
+}
+
+// One of several requests of client c leaves.
+fn leave_more(t: &mut [u32], q: usize, c: u32, r: u32)
+    requires { ⌜ Ready q (now t) ⌝ }
+    requires { ⌜ In r (itemRows (picture (now t))) × (itemWord (now t) r kind.owner ≡ c) ⌝ }
+    requires { ⌜ (clientWord (now t) q c kind.count ≡ 1 → ⊥) ⌝ }
+    ensures { λ _. ⌜ now (t .exit) ≡ draw (steps.leave (picture (now (t .entry))) (itemIn r (picture (now (t .entry)) .window))) ⌝ }
+    ensures { λ _. ⌜ altered (now (t .entry)) (now (t .exit)) ≤ 23 ⌝ }
+{
+    order::lower(t, q, c);
+    window::leave(t, q, r);
+}
+
+// The request in item row r leaves.
 pub fn leave(t: &mut [u32], q: usize, s: &[u32; 1024], r: u32)
     requires { ⌜ Ready q (now t) ⌝ }
     requires { ⌜ IsSpread (now s) ⌝ }
@@ -67,9 +92,8 @@ pub fn leave(t: &mut [u32], q: usize, s: &[u32; 1024], r: u32)
 {
     let c = table::item(t, q, r, LinkedTable::OWNER);
     if table::client(t, q, c, LinkedTable::WAITING) == 1 {
-        order::dismiss(t, q, s, c);
+        leave_last(t, q, s, c, r);
     } else {
-        order::lower(t, q, c);
+        leave_more(t, q, c, r);
     }
-    window::leave(t, q, r);
 }

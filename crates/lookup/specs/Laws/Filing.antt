@@ -230,8 +230,8 @@ module _ (q : ℕ) (hq : q ≤ kind.none) (R : Regions) (cs : List ℕ) (C : ℕ
           rw (without-absent r (C j) out) (chain-frame o r 0 (R .bucket j) (C j) out (chain-frame (book R .next) e _ (R .bucket j) (C j) was (F .chained j h)))
 
   -- a row that is no client's keeps its word
-  left-aside : (e x : ℕ) → e ≡ before 0 kind.none (C b) r → x < q → NotIn x cs → leaveAt b e r R .client x kind.nextInBucket ≡ R .client x kind.nextInBucket
-  left-aside e x f l n =
+  aside : (e x : ℕ) → e ≡ before 0 kind.none (C b) r → x < q → NotIn x cs → leaveAt b e r R .client x kind.nextInBucket ≡ R .client x kind.nextInBucket
+  aside e x f l n =
       let near : In e (kind.none ∷ C b) = rw f (before-in 0 kind.none r (C b) stood) in
       let not-e : x ≡ e → ⊥ = λ z. ⊎-elim (λ w. omega (arith, z, w)) (λ k. not-both x cs (nobody-in F b x low (rw z k)) n) near in
       rw (ne-eqb x r (λ z. other x r cs n here z), ne-eqb x e not-e)
@@ -260,5 +260,5 @@ module _ (q : ℕ) (hq : q ≤ kind.none) (R : Regions) (cs : List ℕ) (C : ℕ
   pub leave-filed : Distinct cs → Filed q (book (leaveRow q r R)) (without r cs) (cut r C)
   leave-filed d = leave-at q hq R cs C r F here home refl low _ behind d
 
-  pub leave-aside : (x : ℕ) → x < q → NotIn x cs → leaveRow q r R .client x kind.nextInBucket ≡ R .client x kind.nextInBucket
-  leave-aside x l n = left-aside q hq R cs C r F here home refl low _ x behind l n
+  pub left-aside : (x : ℕ) → x < q → NotIn x cs → leaveRow q r R .client x kind.nextInBucket ≡ R .client x kind.nextInBucket
+  left-aside x l n = aside q hq R cs C r F here home refl low _ x behind l n
