@@ -10,12 +10,12 @@ use Rattle.steps.proofs.join.Tie as tie
 join-new-requires : tie.Need-join-new-requires
 join-new-requires c κs =
     let p = c .before .before .before .pre in
-    (p .0, (p .1 .0, (subst (Found _ _ _) (c .before .before .if1 .taken) (p .1 .1 .0), p .1 .1 .1)))
+    (p .0, (p .1 .0, (subst (Found _ _ _) (c .before .if1 .taken) (p .1 .1 .0), p .1 .1 .1)))
 
 join-known-requires : tie.Need-join-known-requires
 join-known-requires c κs =
     let p = c .before .before .before .pre in
-    (p .0, (p .1 .1 .0 .row (c .before .before .if1 .left), p .1 .1 .1))
+    (p .0, (p .1 .1 .0 .row (c .before .if1 .left), p .1 .1 .1))
 
 same-length : tie.Need-same-length
 same-length c = search needs
