@@ -1,0 +1,77 @@
+-- What the verdict on the lent words says: a table that is not refused is there in full and ready, and the answer is of what it shows.
+use mathlib.Core.Bool.{Bool, true, false, cond}
+use mathlib.Core.List.{List, [], _∷_, map}
+use mathlib.Core.Path.{_≡_, refl, sym, ap, _∙_, subst}
+use Prim.Native.Nat.{ℕ, _≤_}
+use native.Mathlib.Omega.{arith}
+use lib.Dec.{eqb}
+use lib.ListN.{length, getD, take}
+use lib.Seq.{getD-take}
+use borrow.Author.Tests.{ltb-false, ne-eqb}
+use Rattle.table.specs.Kind as kind
+use Rattle.rules.specs.History.{Waiting}
+use Rattle.rules.specs.Picture.{plain}
+use Rattle.rules.specs.Sound.{picture}
+use Rattle.rules.specs.Ready.{Ready}
+use Rattle.rules.specs.Verdict.{room, verdict}
+use Rattle.rules.proofs.Decide.{_&_, eqb-decides, range-decides}
+use Rattle.limiter.specs.Lent.{waitingIn, orRefused, refusalOf, numbersOf}
+
+-- each test passed
+passed : (a b c d : Bool) → _≡_ {A = ℕ} (cond a 2 (cond b (cond c 2 (cond d 0 3)) 3)) 0 → ((a ≡ false) × (b ≡ true)) × ((c ≡ false) × (d ≡ true))
+passed false true false true e = ((refl, refl), (refl, refl))
+passed true b c d e = absurd (omega arith)
+passed false false c d e = absurd (omega arith)
+passed false true true d e = absurd (omega arith)
+passed false true false false e = absurd (omega arith)
+
+shown-size : (t : List ℕ) → picture t .size ≡ getD t kind.sizeAt 0
+unfolding picture
+shown-size t = refl
+
+-- a lent table that is not refused
+pub record Accepted (t : List ℕ) : Type 0 where
+  pub header : kind.headerWords ≤ length t
+  pub most : getD t kind.sizeAt 0 ≤ kind.largest
+  pub long : room t ≤ length t
+  pub ready : Ready (getD t kind.sizeAt 0) (take (room t) t)
+
+pub accepted : (t : List ℕ) → 0 ≡ verdict t → Accepted t
+unfolding verdict
+accepted t e =
+    let ((h, m), (l, s)) = passed _ _ _ _ (sym e) in
+    record {
+      header = ltb-false (length t) kind.headerWords h;
+      most = (eqb-decides (getD t kind.markAt 0) kind.mark & range-decides (getD t kind.sizeAt 0)) .0 m .1 .1;
+      long = ltb-false (length t) (room t) l;
+      ready = record { sound = s; size = shown-size (take (room t) t) ∙ getD-take (room t) t kind.sizeAt 0 (omega arith) };
+    }
+
+-- the verdict v, as the code has it
+module _ (t : List ℕ) {v : ℕ} (is : v ≡ verdict t) where
+  pub refuses : {A : Type 0} (refused : ℕ → A) (a : A) → (v ≡ 0 → ⊥) → refused v ≡ orRefused refused t a
+  refuses refused a n = rw (← is, ne-eqb v 0 n)
+
+  module _ (none : v ≡ 0) where
+    pub accepts : Accepted t
+    accepts = accepted t (sym none ∙ is)
+
+    -- the part of the words that is the table
+    module _ {need : ℕ} (size : need ≡ room t) where
+      pub part-fits : need ≤ length t
+      part-fits = rw size (accepts .long)
+
+      pub part-ready : Ready (getD t kind.sizeAt 0) (take need t)
+      part-ready = rw size (accepts .ready)
+
+      pub answers : {A : Type 0} (refused : ℕ → A) (answer : Waiting → A) {r : A} → r ≡ answer (plain (picture (take need t))) → r ≡ orRefused refused t (answer (waitingIn t))
+      answers refused answer e = rw (← is, none) (e ∙ ap (λ (n : ℕ). answer (plain (picture (take n t)))) size)
+
+-- document 01's numbers of an answer, from those of the answer of a table that is not refused
+module _ {A : Type 0} (numbers : A → List ℕ) (refused : ℕ → A) (values : List ℕ) (by : (v : ℕ) → numbers (refused v) ≡ v ∷ map (λ _. 0) values) where
+  pub answer-numbers : (t : List ℕ) (own : ℕ) {a r : A} → numbers a ≡ numbersOf own values → r ≡ orRefused refused t a → numbers r ≡ numbersOf (refusalOf t own) values
+  answer-numbers t own {a} e is = ap numbers is ∙ go (eqb (verdict t) 0) refl
+    where
+      go : (z : Bool) → eqb (verdict t) 0 ≡ z → numbers (cond z a (refused (verdict t))) ≡ numbersOf (cond z own (verdict t)) values
+      go true f = e
+      go false f = by (verdict t) ∙ rw f

@@ -1,0 +1,3 @@
+-- What the calls offered outside promise: functions of the lent words alone.
+pub mod Lent
+pub mod Questions
