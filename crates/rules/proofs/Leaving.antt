@@ -96,7 +96,7 @@ some-client cs [] a h = absurd (not-suc-le-zero h)
 some-client [] (i ∷ w) a h = absurd (a .0)
 some-client (c ∷ cs) (i ∷ w) a h = omega arith
 
-front-first : (w : List Item) → 1 ≤ length w → (v : List Item) × (frontItem w ∷ v ≡ w)
+pub front-first : (w : List Item) → 1 ≤ length w → (v : List Item) × (frontItem w ∷ v ≡ w)
 front-first [] h = absurd (not-suc-le-zero h)
 front-first (i ∷ w) h = (w, refl)
 
@@ -116,7 +116,7 @@ module _ (P : Picture) (v : Right P) (h : 1 ≤ length (P .window)) where
   abbrev newest : Item
   newest = newestItem heaviest (item 0 0 0) (P .window)
 
-  newest-is : Newest (P .clients) heaviest (P .window) newest
+  pub newest-is : Newest (P .clients) heaviest (P .window) newest
   newest-is = newest-item (P .clients) heaviest (v .ids) (heaviest-is .0) (item 0 0 0) (P .window) (v .owners) (counts-one P v heaviest (heaviest-is .0))
 
   pub evicted-request : requestOf (P .clients) newest ≡ history.newest (heaviestClient (plain P)) (plain P .window)

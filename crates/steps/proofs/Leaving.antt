@@ -12,7 +12,8 @@ use Rattle.table.specs.Regions.{Regions, words, regions, itemWord, clientWord, 
 use Rattle.table.proofs.Whole.{whole}
 use Rattle.table.proofs.Write.{then, draws}
 use Rattle.rules.specs.Rows.{In, Distinct}
-use Rattle.rules.specs.Picture.{Item, Picture, itemRow, itemRows, clientRows, countOf}
+use Rattle.rules.specs.History as history
+use Rattle.rules.specs.Picture.{Item, Picture, itemRow, clientRow, clientId, itemRows, clientRows, countOf, idOf, requestOf}
 use Rattle.rules.specs.Steps.{withoutItem, dropItem, leave}
 use Rattle.rules.specs.Draw.{draw}
 use Rattle.rules.specs.Sound.{picture, Right}
@@ -20,7 +21,7 @@ use Rattle.rules.specs.Ready.{Ready}
 use Rattle.rules.specs.Parts.{Queued}
 use Rattle.rules.proofs.Rows.{in-below, not-both}
 use Rattle.rules.proofs.Put.{Put, here, there, put-there, put-map, take-all, take-out, take-distinct}
-use Rattle.rules.proofs.Look.{find}
+use Rattle.rules.proofs.Look.{find, look-in}
 use Rattle.rules.proofs.Right.{items-distinct, items-below, clients-below, counts-one}
 use Rattle.rules.proofs.Settle.{count-more}
 use Rattle.rules.proofs.Moves.{leave-last, leave-more, leave-step}
@@ -39,11 +40,12 @@ use Rattle.window.specs.Shown.{Waits}
 use Rattle.window.proofs.Kept.{left-keeps}
 use Rattle.window.proofs.Left.{left-queued}
 use Rattle.steps.specs.Items.{itemIn}
+use Rattle.steps.specs.Replies.{asStruct}
 use Rattle.steps.proofs.Around.{Others, ready-others, ready-queued, queued-beside, others-hold}
 use Rattle.steps.proofs.Clients.{others-moved, others-left}
 
 -- the item in its row
-item-in : {i : Item} {v w : List Item} → Put i v w → Distinct (map itemRow w) → itemIn (i .row) w ≡ i
+pub item-in : {i : Item} {v w : List Item} → Put i v w → Distinct (map itemRow w) → itemIn (i .row) w ≡ i
 item-in {i} here d = rw (eq-eqb (i .row) (i .row) refl)
 item-in {i} (there {x = x} {ys = ys} p) d = rw (ne-eqb (x .row) (i .row) (λ e. not-both (x .row) (map itemRow ys) (rw e (put-there itemRow p)) (d .0))) (item-in p (d .1))
 
@@ -96,6 +98,12 @@ module _ {q : ℕ} {t : List ℕ} (y : Ready q t) (r : ℕ) (waits : In r (itemR
 
     counted : clientWord t q c kind.count ≡ n c
     counted = ready-others y .ordered .counted c there-client
+
+    -- the request that it is
+    pub item-told : {id ticket : ℕ} → id ≡ clientWord t q c kind.id → ticket ≡ itemWord t r kind.ticket → asStruct (history.request id ticket) ≡ asStruct (requestOf (P .clients) it)
+    item-told i k =
+        let name : R .client c kind.id ≡ idOf (P .clients) c = look-in clientRow clientId (λ s. R .client s kind.id) (P .clients) (ready-others y .ids) c there-client in
+        ap₂ (λ (a b : ℕ). asStruct (history.request a b)) (i ∙ name ∙ ap (idOf (P .clients)) (sym is-client)) (k ∙ ap (λ (s : ℕ). R .item s kind.ticket) (sym row) ∙ take-all _ put (ready-queued y .ticket) .0)
 
     -- one fewer of its client's
     counts : countOf (withoutItem (it .row) (P .window)) ≡ at n c (n c - 1)

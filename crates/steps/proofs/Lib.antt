@@ -3,3 +3,5 @@ pub mod Around
 pub mod Clients
 pub mod Joining
 pub mod Leaving
+pub mod Reading
+pub mod Choices
