@@ -69,7 +69,7 @@ module _ (q : ℕ) (R : Regions) (small : q ≤ kind.largest) (cs : List ℕ) (K
   distinct : (b o : ℕ → ℕ) (h : ℕ) (xs : List ℕ) (l : ℕ) → Below q xs → Run b o kind.none h xs kind.none l → Distinct xs
   distinct b o h xs l low r = run-distinct b o kind.none h xs kind.none l (past q kind.none xs (omega arith) low) r
 
-  -- the rows of the window, and those that are free
+  -- the check passed: so its rows are right
   module _ (rows free : List ℕ) (f : Follows q R (R .header kind.requestsAt) (R .header kind.frontAt) kind.none (λ c. kind.none) (λ c. 0) rows)
       (g : Frees q R (q - R .header kind.requestsAt) (R .header kind.freeItemAt) free) where
     own-list : (c : ℕ) → c < q → Own q R c (ownOf R c rows)
@@ -133,34 +133,36 @@ module _ (q : ℕ) (R : Regions) (small : q ≤ kind.largest) (cs : List ℕ) (K
           counts = λ c i. omega (arith, f .own c (waits c i) .count);
         }
 
-  -- the items are right
-  whole : Items q R cs → Whole q R
-  whole I =
-      let Q = I .queued in
-      let w = I .w in
-      let rows = map itemRow w in
-      let many : length rows ≡ R .header kind.requestsAt = length-map w itemRow ∙ sym (Q .waiting) in
-      let long : length rows + length (I .free) ≡ q = sym (length-append rows (I .free)) ∙ Q .each .long in
-      let ends : (c : ℕ) → Waits q R c → OwnRest q R c kind.none 0 (ownOf R c rows) = λ c v.
-      let xs = ownRows c w in
-      let o = Q .own c (v .0) in
-      let n = I .counts c (K .others c (v .0) (v .1)) in
-      let some : 1 ≤ length xs = omega (arith, n, v .1) in
-      rw (own-shown R c w (Q .owner)) (record { run = rw (next-oldest q R c kind.none (omega arith), o .oldest ∙ head-any 0 kind.none xs some, o .newest ∙ last-any 0 kind.none xs some) (o .linked .run); count = omega (arith, n) }) in
-      record {
-        few = omega arith;
-        window = (
-          rows,
-          record {
-            many = many;
-            below = Q .window .below;
-            run = Q .window .run;
-            owners = all-map (λ i. Owned q R (i .row)) (Owned q R) itemRow w (λ i o. o) (all-both (λ i. R .item (i .row) kind.owner ≡ i .client) (λ i. In (i .client) cs) (λ i. Owned q R (i .row)) w (λ i e m. rw e (waits (i .client) m)) (Q .owner) (I .owners));
-            own = ends;
-          },
-        );
-        free = (I .free, record { many = omega arith; below = below-right q rows (I .free) (Q .each .below); chain = Q .chain; idle = in-all (Idle R) (I .free) (Q .idle) });
-      }
+  -- the items are right: so the check passes
+  module _ (I : Items q R cs) where
+    abbrev rows : List ℕ
+    rows = map itemRow (I .w)
+
+    own-rest : (c : ℕ) → Waits q R c → OwnRest q R c kind.none 0 (ownOf R c rows)
+    own-rest c v =
+        let xs = ownRows c (I .w) in
+        let o = I .queued .own c (v .0) in
+        let n = I .counts c (K .others c (v .0) (v .1)) in
+        let some : 1 ≤ length xs = omega (arith, n, v .1) in
+        let oldest = next-oldest q R c kind.none (omega arith) ∙ o .oldest ∙ head-any 0 kind.none xs some in
+        let newest = o .newest ∙ last-any 0 kind.none xs some in
+        rw (own-shown R c (I .w) (I .queued .owner)) (record { run = rw (oldest, newest) (o .linked .run); count = omega (arith, n) })
+
+    owned : All (Owned q R) rows
+    owned =
+        all-map (λ i. Owned q R (i .row)) (Owned q R) itemRow (I .w) (λ i o. o)
+        (all-both (λ i. R .item (i .row) kind.owner ≡ i .client) (λ i. In (i .client) cs) (λ i. Owned q R (i .row)) (I .w) (λ i e m. rw e (waits (i .client) m)) (I .queued .owner) (I .owners))
+
+    whole : Whole q R
+    whole =
+        let Q = I .queued in
+        let many : length rows ≡ R .header kind.requestsAt = length-map (I .w) itemRow ∙ sym (Q .waiting) in
+        let long : length rows + length (I .free) ≡ q = sym (length-append rows (I .free)) ∙ Q .each .long in
+        record {
+          few = omega arith;
+          window = (rows, record { many = many; below = Q .window .below; run = Q .window .run; owners = owned; own = own-rest });
+          free = (I .free, record { many = omega arith; below = below-right q rows (I .free) (Q .each .below); chain = Q .chain; idle = in-all (Idle R) (I .free) (Q .idle) });
+        }
 
 pub checked-by : (q : ℕ) (t : List ℕ) (ok : Bool) → Sized q t → Tells ok (Whole q (regions q t)) → Checked q t ok
 checked-by q t ok s a =

@@ -89,8 +89,8 @@ module _ (q : ℕ) (R : Regions) where
             (some r .0, record { many = omega (arith, f .many); below = f .below .1; run = f .run .2; owners = f .owners .1; own = λ d w. own-on a (some r .0) d .0 (f .own d w) }),
         λ r.
             let f = r .1 in
-            let j = a .joins in
-            (x ∷ r .0, record { many = omega (arith, f .many); below = (a .row, f .below); run = (refl, j .earlier, f .run); owners = ((a .client, λ z. omega (arith, z, j .room)), f .owners); own = λ d w. own-on a (r .0) d .1 (f .own d w) }),
+            let o : Waits q R owner = (a .client, λ z. omega (arith, z, a .joins .room)) in
+            (x ∷ r .0, record { many = omega (arith, f .many); below = (a .row, f .below); run = (refl, a .joins .earlier, f .run); owners = (o, f .owners); own = λ d w. own-on a (r .0) d .1 (f .own d w) }),
       )
 
     pub done : (k : ℕ) → k ≤ 0 → Rest q R k x prev met seen ↔ Finished q R x prev met seen

@@ -1,4 +1,5 @@
-// The items' part of the soundness check, in one pass without marks: links that agree both ways from a none end repeat no row, a free chain that ends after as many rows as are left repeats none, and no waiting item has both own links 0.
+// The items' part of the soundness check, in one pass without marks: links that agree both ways from a none end repeat no row,
+// a chain that ends repeats none, and a free row has both own links 0, as no waiting one has.
 ghost use mathlib.Core.Path.{_≡_};
 ghost use Prim.Native.Nat.{_<_, _≤_};
 ghost use lib.ListN.{length};

@@ -1,7 +1,7 @@
 -- What the verdict on the lent words says: a table that is not refused is there in full and ready, and the answer is of what it shows.
 use mathlib.Core.Bool.{Bool, true, false, cond}
-use mathlib.Core.List.{List, [], _∷_, map}
-use mathlib.Core.Path.{_≡_, refl, sym, ap, _∙_, subst}
+use mathlib.Core.List.{List, _∷_, map}
+use mathlib.Core.Path.{_≡_, refl, sym, ap, _∙_}
 use Prim.Native.Nat.{ℕ, _≤_}
 use native.Mathlib.Omega.{arith}
 use lib.Dec.{eqb}
@@ -17,7 +17,7 @@ use Rattle.rules.specs.Verdict.{room, verdict}
 use Rattle.rules.proofs.Decide.{_&_, eqb-decides, range-decides}
 use Rattle.limiter.specs.Lent.{waitingIn, orRefused, refusalOf, numbersOf}
 
--- each test passed
+-- every test of a verdict of 0 passed
 passed : (a b c d : Bool) → _≡_ {A = ℕ} (cond a 2 (cond b (cond c 2 (cond d 0 3)) 3)) 0 → ((a ≡ false) × (b ≡ true)) × ((c ≡ false) × (d ≡ true))
 passed false true false true e = ((refl, refl), (refl, refl))
 passed true b c d e = absurd (omega arith)
@@ -25,6 +25,7 @@ passed false false c d e = absurd (omega arith)
 passed false true true d e = absurd (omega arith)
 passed false true false false e = absurd (omega arith)
 
+-- the picture has the words' Q
 shown-size : (t : List ℕ) → picture t .size ≡ getD t kind.sizeAt 0
 unfolding picture
 shown-size t = refl
@@ -36,7 +37,7 @@ pub record Accepted (t : List ℕ) : Type 0 where
   pub long : room t ≤ length t
   pub ready : Ready (getD t kind.sizeAt 0) (take (room t) t)
 
-pub accepted : (t : List ℕ) → 0 ≡ verdict t → Accepted t
+accepted : (t : List ℕ) → 0 ≡ verdict t → Accepted t
 unfolding verdict
 accepted t e =
     let ((h, m), (l, s)) = passed _ _ _ _ (sym e) in

@@ -3,7 +3,6 @@ use mathlib.Core.Bool.{cond}
 use mathlib.Core.List.{List, [], _∷_}
 use Prim.Native.Nat.{ℕ}
 use lib.Dec.{ltb}
-use lib.ListN.{length}
 use Rattle.rules.specs.Rows.{has}
 use Rattle.rules.specs.History.{Waiting, countOf}
 use Rattle.questions.specs.Replies.{needed, listedReply, listedWords, toldReply}
@@ -27,6 +26,7 @@ listedOut listing k t out = orRefused (λ _. out) t (listedWords listing k (wait
 abbrev pub listedNumber : ℕ → ℕ → List ℕ → ℕ
 listedNumber k n t = refusalOf t (cond (ltb n (needed k (waitingIn t))) 4 0)
 
+-- its numbers: the refusal number, and how many pairs were written
 abbrev pub listedNumbers : Listed → List ℕ
 listedNumbers (listed.Number n) = 0 ∷ n ∷ []
 listedNumbers (listed.Refused n) = n ∷ 0 ∷ []
@@ -35,9 +35,11 @@ listedNumbers (listed.Refused n) = n ∷ 0 ∷ []
 abbrev pub countedAnswer : ℕ → List ℕ → Counted
 countedAnswer i t = orRefused counted.Refused t (counted.Number (countOf (waitingIn t) i))
 
+-- its refusal number: the table's alone
 abbrev pub countedNumber : List ℕ → ℕ
 countedNumber t = refusalOf t 0
 
+-- its numbers: the refusal number, and the count
 abbrev pub countedNumbers : Counted → List ℕ
 countedNumbers (counted.Number n) = 0 ∷ n ∷ []
 countedNumbers (counted.Refused n) = n ∷ 0 ∷ []
@@ -50,6 +52,7 @@ toldAnswer ticket i t = orRefused told.Refused t (toldReply ticket (waitingIn t)
 abbrev pub toldNumber : ℕ → List ℕ → ℕ
 toldNumber i t = refusalOf t (cond (has i (waitingIn t .order)) 0 6)
 
+-- its numbers: the refusal number, and the ticket
 abbrev pub toldNumbers : Told → List ℕ
 toldNumbers (told.Ticket n) = 0 ∷ n ∷ []
 toldNumbers (told.Refused n) = n ∷ 0 ∷ []

@@ -6,11 +6,11 @@ use native.Mathlib.Omega.{arith}
 use lib.ListN.{length}
 use Rattle.table.specs.Kind as kind
 use Rattle.table.specs.Regions.{Regions}
-use Rattle.rules.specs.Rows.{headOr, lastOr, without, In, NotIn, Distinct, Once, Rising}
+use Rattle.rules.specs.Rows.{headOr, lastOr, without, In, NotIn, Once, Rising}
 use Rattle.rules.specs.Linked.{Linked, order}
 use Rattle.rules.specs.Draw.{group}
 use Rattle.rules.specs.Parts.{Ordered}
-use Rattle.rules.proofs.Rows.{in-right, apart-right, in-below, below-in, gone, Within, split-at}
+use Rattle.rules.proofs.Rows.{in-right, apart-right, in-below, gone, split-at}
 use Rattle.links.specs.Pools.{Spare}
 use Rattle.order.specs.Moves.{takeOut, raiseAfter, lowerBefore, lowerAfter}
 use Rattle.order.proofs.Joined.{joined, but, among}
@@ -56,11 +56,6 @@ module _ {q : ℕ} {R : Regions} {rows : List ℕ} {n : ℕ → ℕ} {free : Lis
 
   pub spared : Spared R free
   spared = record { chain = o .chain; zeros = λ r i f h e. o .idle r i f h }
-
--- as many distinct rows out of all are all of them
-pub once-so : {q : ℕ} {xs : List ℕ} (ys : List ℕ) → Once q xs → Distinct ys → Within ys xs → length ys ≡ length xs → Once q ys
-once-so {q} {xs} ys o d w e =
-    record { distinct = d; below = below-in q ys (λ x i. in-below q xs (o .below) x (w x i)); long = e ∙ o .long }
 
 -- r, one of the clients, is taken out of its group: what is known then
 pub record Out (q : ℕ) (R : Regions) (rows : List ℕ) (n : ℕ → ℕ) (r : ℕ) : Type 0 where

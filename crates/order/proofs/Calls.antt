@@ -20,9 +20,13 @@ use Rattle.links.proofs.Lists.{end-links}
 use Rattle.lookup.specs.Book.{idOf, enterRow, leaveRow, put}
 use Rattle.lookup.specs.View.{Keeps, kept-below, word-after, kept-same, kept-id, kept-enter, kept-leave}
 use Rattle.order.specs.Moves.{endWithout, orElse, leaveGroup, enterGroup, takeOut, after, putIn, raiseAfter, raised, lowerBefore, lowerAfter, lowered, oneMore, oneLess, takeRow, admitted, clearRow, freeRow, dismissed}
-use Rattle.order.specs.Asks.{Finds, Drawn, Standing, Client, Vacant, Enters, Leaves}
+use Rattle.order.specs.Asks.{Finds, Drawn, Standing, Listed, Vacant, Enters, Leaves}
 use Rattle.order.proofs.Moved.{stands, raise-links, lower-links, lower-row}
 use Rattle.order.proofs.Coming.{first-free, room-for}
+
+-- what a table is drawn from, after a writer
+pub drawn-then : {q : ℕ} {a b : List ℕ} {f : Regions → Regions} {k : ℕ} {F G : Regions → Type 0} → Writes q a b f k → ((R : Regions) → F R → G (f R)) → Drawn q a F → Drawn q b G
+drawn-then {f = f} w h D = record { regs = f (D .regs); drawn = w .drawn (D .regs) (D .drawn); holds = h (D .regs) (D .holds) }
 
 module _ {q : ℕ} {t : List ℕ} where
   -- groups
@@ -111,7 +115,7 @@ module _ {q : ℕ} {t : List ℕ} where
 
   -- out and in again
 
-  module _ {r : ℕ} {F : ℕ → Type 0} (hq : q ≤ kind.largest) (D : Drawn q t (Client q r F)) where
+  module _ {r : ℕ} {F : ℕ → Type 0} (hq : q ≤ kind.largest) (D : Drawn q t (Listed q r F)) where
     pub client-stands : Drawn q t (Standing q r)
     client-stands = record { regs = D .regs; drawn = D .drawn; holds = stands hq (D .holds .ordered) r (D .holds .there) }
 
@@ -135,7 +139,7 @@ module _ {q : ℕ} {t : List ℕ} where
       move-writes h hx y =
           so-read (then w y) (λ R d. ap₂ (λ (m k : ℕ). putIn r (h m) k (takeOut r R)) (count-read client-stands hx .is R d) (g .is R d))
 
-  module _ {r : ℕ} (hq : q ≤ kind.largest) (D : Drawn q t (Client q r (λ n. n < q))) {x : ℕ} (hx : x ≡ clientWord t q r kind.count) where
+  module _ {r : ℕ} (hq : q ≤ kind.largest) (D : Drawn q t (Listed q r (λ n. n < q))) {x : ℕ} (hx : x ≡ clientWord t q r kind.count) where
     pub room : x < q
     room = rw (count-is hq D hx) (D .holds .counts)
 
@@ -147,7 +151,7 @@ module _ {q : ℕ} {t : List ℕ} where
     pub raise-writes : {a b : List ℕ} {e : ℕ} → Finds q t (raiseAfter r) e → Writes q t a (takeOut r) 4 → Writes q a b (putIn r (x + 1) e) 7 → Writes q t b (raised r) 11
     raise-writes g w y = move-writes hq D w (raiseAfter r) g (λ k. k + 1) hx y
 
-  module _ {r : ℕ} (hq : q ≤ kind.largest) (D : Drawn q t (Client q r (λ n. 2 ≤ n))) where
+  module _ {r : ℕ} (hq : q ≤ kind.largest) (D : Drawn q t (Listed q r (λ n. 2 ≤ n))) where
     pub before-row : {x : ℕ} → Finds q t (lowerBefore r) x → x < q
     before-row f = rw (f .is (D .regs) (D .drawn)) (lower-row hq (D .holds .ordered) r (D .holds .there) (D .holds .counts))
 
@@ -177,12 +181,7 @@ module _ {q : ℕ} {t : List ℕ} where
 
   module _ {a b : List ℕ} (id r : ℕ) (D : Drawn q t (Vacant q)) (x : Writes q t a (takeRow r id) 2) (y : Writes q a b (enterRow q r) 2) where
     pub lightest-link : Drawn q b (λ R. Link q (after kind.none R))
-    lightest-link =
-        record {
-          regs = enterRow q r (takeRow r id (D .regs));
-          drawn = then x y .drawn (D .regs) (D .drawn);
-          holds = end-links (D .holds .ordered .linked) .0;
-        }
+    lightest-link = drawn-then (then x y) (λ R v. end-links (v .ordered .linked) .0) D
 
     module _ {c : List ℕ} (z : Writes q b c (putIn r 1 kind.none) 7) where
       pub room-after : getD c kind.clientsAt 0 < q
@@ -218,15 +217,10 @@ module _ {q : ℕ} {t : List ℕ} where
       so-read (then (then w y) z)
       (λ R d. ap (λ (k : ℕ). setHeader kind.freeClientAt r (setClient r kind.heavier k (clearRow r R))) (e ∙ read-header q R kind.freeClientAt d (lit< tt)))
 
-  module _ {a : List ℕ} {r : ℕ} {F : ℕ → Type 0} (hq : q ≤ kind.largest) (D : Drawn q t (Client q r F)) (x : Writes q t a (leaveRow q r) 2) where
+  module _ {a : List ℕ} {r : ℕ} {F : ℕ → Type 0} (hq : q ≤ kind.largest) (D : Drawn q t (Listed q r F)) (x : Writes q t a (leaveRow q r) 2) where
     pub stands-after : Drawn q a (Standing q r)
     stands-after =
-        let S = client-stands hq D in
-        record {
-          regs = leaveRow q r (S .regs);
-          drawn = x .drawn (S .regs) (S .drawn);
-          holds = record { row = S .holds .row; least = S .holds .least; most = S .holds .most; lighter = S .holds .lighter; heavier = S .holds .heavier };
-        }
+        drawn-then x (λ R s. record { row = s .row; least = s .least; most = s .most; lighter = s .lighter; heavier = s .heavier }) (client-stands hq D)
 
     module _ {b c : List ℕ} (y : Writes q a b (takeOut r) 4) (z : Writes q b c (freeRow r) 5) where
       pub somebody : 1 ≤ getD c kind.clientsAt 0

@@ -2,7 +2,7 @@
 use mathlib.Core.List.{List, [], _∷_, _++_}
 use mathlib.Core.Path.{_≡_, refl, sym, ap, _∙_, subst}
 use mathlib.Core.Logic.{⊎-elim, inl, inr}
-use Prim.Native.Nat.{ℕ, suc, _≤_, _<_}
+use Prim.Native.Nat.{ℕ, _≤_, _<_}
 use native.Mathlib.Nat.{not-suc-le-zero}
 use native.Mathlib.Numerals.{add-one}
 use native.Mathlib.Omega.{arith}
@@ -12,9 +12,10 @@ use Rattle.table.specs.Kind as kind
 use Rattle.table.specs.Regions.{Regions, at}
 use Rattle.table.proofs.Draw.{cond-same}
 use Rattle.table.proofs.Fields.{each}
-use Rattle.rules.specs.Rows.{headOr, rest, without, In, NotIn, Once}
+use Rattle.rules.specs.Rows.{headOr, rest, without, In, NotIn}
 use Rattle.rules.specs.Parts.{Ordered}
-use Rattle.rules.proofs.Rows.{not-both, in-either, in-left, in-right, apart-right, meets, distinct-right, distinct-drop, distinct-put, distinct-both, other, notin, notin-both, without-distinct, in-below, in-without, without-length, gone}
+use Rattle.rules.proofs.Put.{Put, here, put-first, put-second, put-length, put-once, without-put}
+use Rattle.rules.proofs.Rows.{not-both, in-right, meets, distinct-right, other, in-below}
 use Rattle.links.proofs.Lists.{elsewhere}
 use Rattle.links.proofs.Pools.{spare-so, spare-take}
 use Rattle.lookup.specs.Book.{enterRow, leaveRow}
@@ -22,15 +23,16 @@ use Rattle.order.specs.Moves.{takeOut, takeRow, admitted, freeRow, dismi
 use Rattle.order.proofs.Joined.{joined, but, parts, parts-but}
 use Rattle.order.proofs.Sorted.{groups, counted-at}
 use Rattle.order.proofs.Grouped.{Grouped, placed-grouped, placed-aside}
-use Rattle.order.proofs.Frames.{ordered-so}
-use Rattle.order.proofs.Bridge.{Spared, from-groups, in-order, to-groups, spared, once-so, Out, taken-out, free-aside}
+use Rattle.order.proofs.Frames.{ordered-alike}
+use Rattle.order.proofs.Bridge.{Spared, from-groups, in-order, to-groups, spared, Out, taken-out, free-aside}
 
 module _ {q : ℕ} {R : Regions} {rows : List ℕ} {n : ℕ → ℕ} {first : ℕ} {free : List ℕ} (hq : q ≤ kind.largest) (o : Ordered q R rows n (first ∷ free)) (id : ℕ) where
   abbrev r : ℕ
   r = R .header kind.freeClientAt
 
-  abbrev before : Regions
-  before = enterRow q r (takeRow r id R)
+  -- the row taken, with its id, in front of its bucket
+  abbrev filed : Regions
+  filed = enterRow q r (takeRow r id R)
 
   is-first : r ≡ first
   is-first = o .chain .0
@@ -43,12 +45,12 @@ module _ {q : ℕ} {R : Regions} {rows : List ℕ} {n : ℕ → ℕ} {first : �
   new-row : r < q
   new-row = rw is-first (in-below q (rows ++ first ∷ free) (o .each .below) first (in-right first rows (first ∷ free) (inl refl)))
 
-  seen : Grouped q before n (groups n rows)
+  seen : Grouped q filed n (groups n rows)
   seen = let G = to-groups o in record { linked = G .linked; counted = G .counted; sorted = G .sorted; lightEnd = G .lightEnd; heavyEnd = G .heavyEnd }
 
   entered : Grouped q (admitted q id R) (at n r 1) (but (groups n rows) 0 (r ∷ groups n rows 0))
   entered =
-      let G = placed-grouped q hq before n (groups n rows) seen r 0 (omega (arith, new-row)) 1 kind.none refl refl new-row (rw (in-order o) (rows-first .0)) in
+      let G = placed-grouped q hq filed n (groups n rows) seen r 0 (omega (arith, new-row)) 1 kind.none refl refl new-row (rw (in-order o) (rows-first .0)) in
       record { linked = G .linked; counted = G .counted; sorted = G .sorted; lightEnd = G .lightEnd; heavyEnd = G .heavyEnd }
 
   is-entered : joined (but (groups n rows) 0 (r ∷ groups n rows 0)) 0 q ≡ r ∷ rows
@@ -56,25 +58,19 @@ module _ {q : ℕ} {R : Regions} {rows : List ℕ} {n : ℕ → ℕ} {first : �
       parts-but (groups n rows) 0 q (r ∷ groups n rows 0) (omega (arith, new-row))
       ∙ ap (λ (l : List ℕ). r ∷ l) (sym (parts (groups n rows) 0 q (omega (arith, new-row))) ∙ in-order o)
 
-  new-each : Once q ((r ∷ rows) ++ free)
-  new-each =
-      once-so ((r ∷ rows) ++ free) (o .each)
-      (notin-both r rows free (rows-first .0) (rows-first .1), distinct-drop first rows free (o .each .distinct))
-      (λ x i. ⊎-elim (λ e. in-right x rows (first ∷ free) (inl (e ∙ is-first)))
-      (λ j. ⊎-elim (λ k. in-left x rows (first ∷ free) k) (λ k. in-right x rows (first ∷ free) (inr k)) (in-either x rows free j)) i)
-      (simp length-append (omega arith))
-
   new-spared : Spared (admitted q id R) free
   new-spared =
       spare-so (admitted q id R .client)
       (λ x f i.
       let a = free-aside hq o x (inr i) in
       let n′ : x ≡ r → ⊥ = λ e. other r x free (rows-first .1) i (sym e) in
-      sym (placed-aside q hq before n (groups n rows) seen r 0 (omega (arith, new-row)) 1 kind.none refl x f n′ (rw (in-order o) a) ∙ simp (ne-eqb x r n′, cond-same)))
+      sym (placed-aside q hq filed n (groups n rows) seen r 0 (omega (arith, new-row)) 1 kind.none refl x f n′ (rw (in-order o) a) ∙ simp (ne-eqb x r n′, cond-same)))
       (spare-take (spared o) .1)
 
   come : Ordered q (admitted q id R) (r ∷ rows) (at n r 1) free
-  come = from-groups (r ∷ rows) entered is-entered (rw (o .number) (add-one (length rows))) new-each new-spared
+  come =
+      let put : Put r (rows ++ free) (rows ++ first ∷ free) = rw is-first (put-second rows here) in
+      from-groups (r ∷ rows) entered is-entered (rw (o .number) (add-one (length rows))) (put-once q put here (o .each)) new-spared
 
 module _ {q : ℕ} {R : Regions} {rows : List ℕ} {n : ℕ → ℕ} where
   -- what the code asks: the first free row is a row, and there is room for one more
@@ -102,7 +98,7 @@ module _ {q : ℕ} {R : Regions} {rows : List ℕ} {n : ℕ → ℕ} {free : Lis
 
   out-of-bucket : Ordered q left rows n free
   out-of-bucket =
-      ordered-so
+      ordered-alike
       (record { number = refl; lightest = refl; heaviest = refl; free = refl; id = λ x. refl; count = λ x. refl; lighter = λ x. refl; heavier = λ x. refl; ends = refl }) o
 
   out : Out q left rows n r
@@ -118,19 +114,6 @@ module _ {q : ℕ} {R : Regions} {rows : List ℕ} {n : ℕ → ℕ} {free : Lis
         lightEnd = G .lightEnd;
         heavyEnd = G .heavyEnd;
       }
-
-  less : length rows ≡ suc (length (without r rows))
-  less = without-length r rows there
-
-  gone-each : Once q (without r rows ++ r ∷ free)
-  gone-each =
-      let d = o .each .distinct in
-      once-so (without r rows ++ r ∷ free) (o .each)
-      (distinct-put r (without r rows) free
-      (notin-both r (without r rows) free (gone r rows there (o .linked .distinct)) (notin r free (λ i. not-both r rows there (apart-right r rows free d i))))
-      (distinct-both (without r rows) free (without-distinct r rows (o .linked .distinct)) (distinct-right rows free d) (λ x i j. not-both x rows (in-without r x rows i) (apart-right x rows free d j))))
-      (λ x i. ⊎-elim (λ j. in-left x rows free (in-without r x rows j)) (λ j. ⊎-elim (λ e. rw e (in-left r rows free there)) (λ k. in-right x rows free k) j) (in-either x (without r rows) (r ∷ free) i))
-      (simp length-append (omega (arith, less)))
 
   gone-idle : (x f : ℕ) → In x free → left .client x f ≡ dismissed q r R .client x f
   gone-idle x f i =
@@ -149,4 +132,6 @@ module _ {q : ℕ} {R : Regions} {rows : List ℕ} {n : ℕ → ℕ} {free : Lis
       }
 
   pub dismissed-ordered : Ordered q (dismissed q r R) (without r rows) n (r ∷ free)
-  dismissed-ordered = from-groups (without r rows) gone-grouped (out .rest) (omega (arith, o .number, less)) gone-each gone-spared
+  dismissed-ordered =
+      let put = without-put r rows there in
+      from-groups (without r rows) gone-grouped (out .rest) (omega (arith, o .number, put-length put)) (put-once q (put-first free put) (put-second (without r rows) here) (o .each)) gone-spared

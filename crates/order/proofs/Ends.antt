@@ -10,9 +10,9 @@ use borrow.Author.Tests.{eq-eqb, ne-eqb}
 use Rattle.table.specs.Kind as kind
 use Rattle.table.specs.Regions.{Regions}
 use Rattle.rules.specs.Rows.{headOr, lastOr, In, NotIn, Distinct, Below}
-use Rattle.rules.specs.Linked.{Links, Linked, Run, order}
-use Rattle.rules.proofs.Rows.{other, notin-right, distinct-right, below-left, in-below, last-in}
-use Rattle.rules.proofs.Linked.{run-head}
+use Rattle.rules.specs.Linked.{Links, Linked, order}
+use Rattle.rules.proofs.Rows.{other, notin-right, distinct-right, in-below, last-in}
+use Rattle.links.proofs.Lists.{around, meet}
 use Rattle.order.specs.Moves.{endWithout, orElse, after}
 
 last-append : (p : ℕ) (xs : List ℕ) (y : ℕ) (ys : List ℕ) → lastOr p (xs ++ y ∷ ys) ≡ lastOr y ys
@@ -46,19 +46,6 @@ module _ (r : ℕ) where
   last-but back less L (y ∷ M) d h =
       rw (last-append kind.none L r (y ∷ M), last-other y M (distinct-right L (r ∷ y ∷ M) d .0), ← append-assoc less L (y ∷ M), last-append kind.none (less ++ L) y M)
 
--- links
-
-run-at : (b o : ℕ → ℕ) (p h r : ℕ) (xs ys : List ℕ) (n l : ℕ) → Run b o p h (xs ++ r ∷ ys) n l → (b r ≡ lastOr p xs) × (o r ≡ headOr n ys)
-run-at b o p h r [] ys n l k = (k .1, run-head b o r (o r) ys n l (k .2))
-run-at b o p h r (x ∷ xs) ys n l k = run-at b o x (o x) r xs ys n l (k .2)
-
-pub neighbours-at : {q : ℕ} (L : Links) (r : ℕ) (xs ys : List ℕ) → Linked q L (xs ++ r ∷ ys) → (L .back r ≡ lastOr kind.none xs) × (L .on r ≡ headOr kind.none ys)
-neighbours-at L r xs ys k = run-at (L .back) (L .on) kind.none (L .first) r xs ys kind.none (L .last) (k .run)
-
-run-on : (b o : ℕ → ℕ) (p h x : ℕ) (xs ys : List ℕ) (n l : ℕ) → Run b o p h (x ∷ (xs ++ ys)) n l → o (lastOr x xs) ≡ headOr n ys
-run-on b o p h x [] ys n l r = run-head b o x (o x) ys n l (r .2)
-run-on b o p h x (y ∷ xs) ys n l r = run-on b o x (o x) y xs ys n l (r .2)
-
 -- the first of some rows, and the row before it
 pub first-in : (r : ℕ) (ys : List ℕ) → In r ys → In (headOr kind.none ys) ys
 first-in r [] i = absurd i
@@ -66,7 +53,7 @@ first-in r (y ∷ ys) i = inl refl
 
 pub head-back : {q : ℕ} (L : Links) (r : ℕ) (xs ys : List ℕ) → Linked q L (xs ++ ys) → In r ys → L .back (headOr kind.none ys) ≡ lastOr kind.none xs
 head-back L r xs [] k i = absurd i
-head-back L r xs (y ∷ ys) k i = neighbours-at L y xs ys k .0
+head-back L r xs (y ∷ ys) k i = around y xs ys k .0
 
 module _ (q : ℕ) (hq : q ≤ kind.largest) where
   last-row : (x : ℕ) (xs : List ℕ) → Below q (x ∷ xs) → eqb (lastOr x xs) kind.none ≡ false
@@ -74,10 +61,7 @@ module _ (q : ℕ) (hq : q ≤ kind.largest) where
 
   -- the row after the last of xs, or the first
   pub after-last : (R : Regions) (e : ℕ) (xs ys : List ℕ) → Linked q (order R) (xs ++ ys) → e ≡ lastOr kind.none xs → after e R ≡ headOr kind.none ys
-  after-last R e [] ys k h = rw h (run-head (order R .back) (order R .on) kind.none (order R .first) ys kind.none (order R .last) (k .run))
-  after-last R e (x ∷ xs) ys k h =
-      rw (h, last-row x xs (below-left q (x ∷ xs) ys (k .below)))
-      (run-on (order R .back) (order R .on) kind.none (order R .first) x xs ys kind.none (order R .last) (k .run))
+  after-last R e xs ys k h = rw h (meet q hq (order R) xs ys k .0)
 
   -- the heavier end of a group that r enters
   pub or-last : (r : ℕ) (xs : List ℕ) → Below q xs → orElse (lastOr kind.none xs) r ≡ lastOr r xs

@@ -24,8 +24,8 @@ pub record Alike (R S : Regions) : Type 0 where
   pub heavier : (x : ℕ) → R .client x kind.heavier ≡ S .client x kind.heavier
   pub ends : R .count ≡ S .count
 
-pub ordered-so : {q : ℕ} {R S : Regions} {rows : List ℕ} {n : ℕ → ℕ} {free : List ℕ} → Alike R S → Ordered q R rows n free → Ordered q S rows n free
-ordered-so {R = R} {S} {free = free} a o =
+pub ordered-alike : {q : ℕ} {R S : Regions} {rows : List ℕ} {n : ℕ → ℕ} {free : List ℕ} → Alike R S → Ordered q R rows n free → Ordered q S rows n free
+ordered-alike {R = R} {S} {free = free} a o =
     record {
       number = sym (a .number) ∙ o .number;
       linked = linked-so (a .lightest) (a .heaviest) (λ x i. (a .lighter x, a .heavier x)) (o .linked);

@@ -11,9 +11,9 @@ use Rattle.table.proofs.Draw.{cond-same}
 use Rattle.rules.specs.Rows.{headOr, lastOr, without, In, NotIn, Distinct, Below}
 use Rattle.rules.specs.Linked.{Linked, order}
 use Rattle.rules.proofs.Rows.{other, in-left, in-right, distinct-left, distinct-right, below-left, below-right, in-below, last-in, head-in, Split, split-at}
-use Rattle.links.proofs.Lists.{unlink-linked, insert-linked, neighbours}
+use Rattle.links.proofs.Lists.{around, unlink-linked, insert-linked, neighbours}
 use Rattle.order.specs.Moves.{takeOut, after, putIn, raiseAfter, lowerBefore, lowerAfter}
-use Rattle.order.proofs.Ends.{light-end, heavy-end, last-but, neighbours-at, first-in, head-back, after-last, or-last, or-head}
+use Rattle.order.proofs.Ends.{light-end, heavy-end, last-but, first-in, head-back, after-last, or-last, or-head}
 use Rattle.order.proofs.Joined.{joined, but, above, parts, parts-but, below-but, upto-suc, of-but, in-joined}
 use Rattle.order.proofs.Sorted.{Counted, counted-out, counted-put, whole, left-out}
 
@@ -48,7 +48,7 @@ module _ (q : ℕ) (hq : q ≤ kind.largest) (R : Regions) (c : ℕ → ℕ) (g 
     linked = subst (Linked q (order R)) (whole q g r i hi s) (o .linked)
 
     near : (R .client r kind.lighter ≡ lastOr kind.none less) × (R .client r kind.heavier ≡ headOr kind.none more)
-    near = neighbours-at (order R) r less more linked
+    near = around r less more linked
 
     light-of : R .count i kind.lightEnd ≡ headOr kind.none (s .left ++ r ∷ s .right)
     light-of = o .lightEnd i hi ∙ ap (headOr kind.none) (s .is)
@@ -59,7 +59,7 @@ module _ (q : ℕ) (hq : q ≤ kind.largest) (R : Regions) (c : ℕ → ℕ) (g 
     pub taken-grouped : Grouped q (takeOut r R) c (but g i (without r (g i)))
     taken-grouped =
         record {
-          linked = rw (left-out q g r i hi s) (unlink-linked q (omega arith) (order R) r less more linked);
+          linked = rw (left-out q g r i hi s) (unlink-linked q hq (order R) r less more linked);
           counted = counted-out (λ x. R .client x kind.count) q g (o .counted) r i hi;
           sorted = counted-out c q g (o .sorted) r i hi;
           lightEnd = λ k h. rw count-row
@@ -131,7 +131,7 @@ module _ (q : ℕ) (hq : q ≤ kind.largest) (R : Regions) (c : ℕ → ℕ) (g 
         let row : n - 1 ≡ i = omega arith in
         record {
           linked = rw (parts-but g i q (r ∷ g i) hi)
-              (insert-linked q (omega arith) (order R) r e (after e R) (joined g 0 i) onto he placed-after (subst (NotIn r) (parts g i q hi) out) hr cut);
+              (insert-linked q hq (order R) r e (after e R) (joined g 0 i) onto he placed-after (subst (NotIn r) (parts g i q hi) out) hr cut);
           counted = counted-put (λ x. R .client x kind.count) q g r i n hi hn out (o .counted);
           sorted = counted-put c q g r i n hi hn out (o .sorted);
           lightEnd = λ k h. rw row (of-but (λ v l. v ≡ headOr kind.none l) k i _ _ (r ∷ g i) (g k) (λ z. refl) (o .lightEnd k h));

@@ -1,29 +1,26 @@
 -- Raised by one and lowered by one, a client stands where the plain history's rule places it.
 use mathlib.Core.List.{List, _∷_, _++_}
 use mathlib.Core.Path.{_≡_, sym, ap, _∙_, subst}
-use mathlib.Core.Logic.{⊎-elim}
 use Prim.Native.Nat.{ℕ, suc, _+_, _-_, _≤_, _<_}
 use native.Mathlib.Omega.{arith}
-use lib.ListN.{length, length-append}
 use Rattle.table.specs.Kind as kind
 use Rattle.table.specs.Regions.{Regions, at}
 use Rattle.table.proofs.Draw.{at-same}
-use Rattle.table.proofs.Fields.{each}
-use Rattle.rules.specs.Rows.{lastOr, rest, without, In, Distinct, Below}
+use Rattle.rules.specs.Rows.{lastOr, without, In, Below}
 use Rattle.rules.specs.Linked.{Link}
 use Rattle.rules.specs.History.{place}
-use Rattle.rules.specs.Draw.{group}
 use Rattle.rules.specs.Parts.{Ordered}
-use Rattle.rules.proofs.Rows.{not-both, in-either, in-left, in-right, distinct-right, distinct-both, below-left, below-right, in-without, notin-without, without-length, gone, Within}
+use Rattle.rules.proofs.Put.{Put, put-first, put-length, put-once, without-put}
+use Rattle.rules.proofs.Rows.{not-both, below-left, below-right, notin-without}
 use Rattle.rules.proofs.Linked.{head-link, last-link}
 use Rattle.links.proofs.Lists.{neighbour-links}
 use Rattle.links.proofs.Pools.{spare-so}
 use Rattle.order.specs.Moves.{takeOut, after, putIn, raiseAfter, raised, lowerBefore, lowerAfter, lowered}
 use Rattle.order.specs.Asks.{Standing}
 use Rattle.order.proofs.Joined.{joined, but, above, parts}
-use Rattle.order.proofs.Sorted.{place-joined, counted-at, place-in, place-length}
+use Rattle.order.proofs.Sorted.{place-joined, counted-at, place-put}
 use Rattle.order.proofs.Grouped.{Grouped, placed-after, placed-grouped, placed-aside}
-use Rattle.order.proofs.Bridge.{from-groups, spared, once-so, Out, taken-out, free-aside}
+use Rattle.order.proofs.Bridge.{from-groups, spared, Out, taken-out, free-aside}
 
 module _ {q : ℕ} {R : Regions} {rows : List ℕ} {n : ℕ → ℕ} {free : List ℕ} (hq : q ≤ kind.largest) (o : Ordered q R rows n free) (r : ℕ) (there : In r rows) where
   out : Out q R rows n r
@@ -51,11 +48,8 @@ module _ {q : ℕ} {R : Regions} {rows : List ℕ} {n : ℕ → ℕ} {free : Lis
           sym (place-joined (at n r m) q (out .others) (counted-at n q (out .others) r m (out .gone) (out .taken .sorted)) r j hj (at-same n r m ∙ hm))
           ∙ ap (place (at n r m) r) (out .rest)
 
-      still : Within rows′ rows
-      still x k = ⊎-elim (λ e. rw e there) (λ z. in-without r x rows z) (place-in (at n r m) r x (without r rows) k)
-
-      as-long : length rows′ ≡ length rows
-      as-long = place-length (at n r m) r (without r rows) ∙ sym (without-length r rows there)
+      abbrev put : Put r (without r rows) rows′
+      put = place-put (at n r m) r (without r rows)
 
       idle : (x f : ℕ) → In x free → R .client x f ≡ putIn r m e (takeOut r R) .client x f
       idle x f k =
@@ -66,12 +60,8 @@ module _ {q : ℕ} {R : Regions} {rows : List ℕ} {n : ℕ → ℕ} {free : Lis
 
       moved : Ordered q (putIn r m e (takeOut r R)) rows′ (at n r m) free
       moved =
-          let d : Distinct rows′ = rw is-placed at (placed .linked .distinct) in
-          from-groups rows′ placed is-placed (o .number ∙ sym as-long)
-          (once-so (rows′ ++ free) (o .each)
-          (distinct-both rows′ free d (distinct-right rows free (o .each .distinct)) (λ x a b. not-both x rows (still x a) (free-aside hq o x b .1)))
-          (λ x k. ⊎-elim (λ a. in-left x rows free (still x a)) (λ b. in-right x rows free b) (in-either x rows′ free k))
-          (simp length-append (ap (λ (k : ℕ). k + length free) as-long)))
+          let before = without-put r rows there in
+          from-groups rows′ placed is-placed (o .number ∙ put-length before ∙ sym (put-length put)) (put-once q (put-first free before) (put-first free put) (o .each))
           (spare-so (putIn r m e (takeOut r R) .client) idle (spared o))
 
   -- what the code asks of r

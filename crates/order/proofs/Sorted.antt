@@ -6,13 +6,13 @@ use mathlib.Core.Logic.{⊎-elim, inl, inr}
 use Prim.Native.Nat.{ℕ, zero, suc, _+_, _-_, _≤_, _<_}
 use native.Mathlib.Omega.{arith}
 use lib.Dec.{eqb, leb}
-use lib.ListN.{length}
 use borrow.Author.Tests.{eq-eqb, ne-eqb, eqb-true, eqb-false, le-leb, lt-leb}
 use Rattle.table.specs.Regions.{at}
 use Rattle.table.proofs.Draw.{at-same, at-other}
 use Rattle.rules.specs.Rows.{without, In, NotIn, Distinct, Rising}
 use Rattle.rules.specs.History.{place}
 use Rattle.rules.specs.Draw.{group}
+use Rattle.rules.proofs.Put.{Put, here, there}
 use Rattle.rules.proofs.Rows.{other, meets, in-without, Split}
 use Rattle.order.proofs.Joined.{joined, but, joined-so, above, parts, parts-but, of-but, in-joined, among}
 
@@ -45,22 +45,13 @@ module _ (c : ℕ → ℕ) where
   place-between r (x ∷ xs) ys a b =
       rw (lt-leb (c r) (c x) (a x (inl refl))) (ap (λ (l : List ℕ). x ∷ l) (place-between r xs ys (λ y i. a y (inr i)) b))
 
-  -- with it, the list has that row more
-  pub place-in : (r x : ℕ) (xs : List ℕ) → In x (place c r xs) → In x (r ∷ xs)
-  place-in r x [] i = i
-  place-in r x (y ∷ xs) i = go (leb (c r) (c y)) (place-in r x xs) i
+  pub place-put : (r : ℕ) (xs : List ℕ) → Put r xs (place c r xs)
+  place-put r [] = here
+  place-put r (x ∷ xs) = go (leb (c r) (c x)) (place-put r xs)
     where
-      go : (b : Bool) → (In x (place c r xs) → In x (r ∷ xs)) → In x (cond b (r ∷ y ∷ xs) (y ∷ place c r xs)) → In x (r ∷ y ∷ xs)
-      go true f j = j
-      go false f j = ⊎-elim (λ e. inr (inl e)) (λ k. ⊎-elim (λ e. inl e) (λ z. inr (inr z)) (f k)) j
-
-  pub place-length : (r : ℕ) (xs : List ℕ) → length (place c r xs) ≡ suc (length xs)
-  place-length r [] = refl
-  place-length r (y ∷ xs) = go (leb (c r) (c y)) (place-length r xs)
-    where
-      go : (b : Bool) → length (place c r xs) ≡ suc (length xs) → length (cond b (r ∷ y ∷ xs) (y ∷ place c r xs)) ≡ suc (suc (length xs))
-      go true e = refl
-      go false e = ap suc e
+      go : (b : Bool) → Put r xs (place c r xs) → Put r (x ∷ xs) (cond b (r ∷ x ∷ xs) (x ∷ place c r xs))
+      go true p = here
+      go false p = there p
 
   -- never falling
 

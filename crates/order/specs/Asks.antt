@@ -30,8 +30,8 @@ pub record Standing (q r : ℕ) (R : Regions) : Type 0 where
   pub lighter : Link q (R .client r kind.lighter)
   pub heavier : Link q (R .client r kind.heavier)
 
--- a client in row r, with a count of which F holds
-pub record Client (q r : ℕ) (F : ℕ → Type 0) (R : Regions) : Type 0 where
+-- row r is one of the clients, with a count of which F holds
+pub record Listed (q r : ℕ) (F : ℕ → Type 0) (R : Regions) : Type 0 where
   pub rows : List ℕ
   pub count : ℕ → ℕ
   pub free : List ℕ

@@ -1,5 +1,5 @@
-// The order of clients (HL-HITTERS): a list from lightest to heaviest, with the two ends of each group of equal counts.
-// The functions rest on a sound table: that the order is right (`Client`) and the table has its size (`Sized`).
+// The order of clients (HL-HITTERS, algorithms 2, 3 and 4): a list from lightest to heaviest, and the two ends of each group of equal counts.
+// The functions rest on a sound table: its size (`Sized`), an order that is right (`Listed`, `Vacant`), and to dismiss also a lookup that is (`Kept`).
 ghost use mathlib.Core.Path.{_≡_};
 ghost use Prim.Native.Nat.{_<_, _≤_};
 ghost use lib.ListN.{getD};
@@ -10,10 +10,10 @@ ghost use Rattle.rules.specs.Linked.{Link};
 ghost use Rattle.rules.specs.Spread.{IsSpread};
 ghost use Rattle.lookup.specs.View.{Kept};
 ghost use Rattle.order.specs.Moves.{endWithout, orElse, leaveGroup, enterGroup, takeOut, after as afterIn, putIn, raiseAfter, raised, lowerAfter, lowered, takeRow, oneMore, oneLess, admitted, clearRow, freeRow, dismissed};
-ghost use Rattle.order.specs.Asks.{Finds, Drawn, Standing, Client, Vacant, Enters, Leaves};
+ghost use Rattle.order.specs.Asks.{Finds, Drawn, Standing, Listed, Vacant, Enters, Leaves};
 use table::LinkedTable;
 
-// An end of group row k once r has left it; `inside` is r's link away from that end.
+// An end of the group of count row k once r has left it; `inside` is r's link away from that end.
 fn end_without(
     t: &[u32],
     q: usize,
@@ -41,7 +41,7 @@ fn end_without(
     }
 }
 
-// r leaves group row k.
+// r leaves the group of count row k.
 fn leave_group(t: &mut [u32], q: usize, r: u32, k: usize)
     requires { ⌜ Sized q (now t) ⌝ }
     requires { ⌜ (r < q) × (k < q) ⌝ }
@@ -77,7 +77,7 @@ fn or_else(x: u32, y: u32) -> u32
     if x == LinkedTable::NONE { y } else { x }
 }
 
-// r enters group row k at its lighter end.
+// r enters the group of count row k at its lighter end.
 fn enter_group(t: &mut [u32], q: usize, r: u32, k: usize)
     requires { ⌜ Sized q (now t) ⌝ }
     requires { ⌜ k < q ⌝ }
@@ -147,7 +147,7 @@ fn raise_after(t: &[u32], q: usize, r: u32) -> u32
 // The row that r comes to stand after when it is lowered: the one before the lighter end of the group below, or of its own.
 fn lower_after(t: &[u32], q: usize, r: u32) -> u32
     requires { ⌜ Sized q (now t) ⌝ }
-    requires { ⌜ Drawn q (now t) (Client q r (λ n. 2 ≤ n)) ⌝ }
+    requires { ⌜ Drawn q (now t) (Listed q r (λ n. 2 ≤ n)) ⌝ }
     ensures { λ x. ⌜ Finds q (now (t .entry)) (lowerAfter r) x ⌝ }
 {
     let c = table::client(t, q, r, LinkedTable::WAITING);
@@ -159,7 +159,7 @@ fn lower_after(t: &[u32], q: usize, r: u32) -> u32
 // The count of the client in row r rises by one.
 pub fn raise(t: &mut [u32], q: usize, r: u32)
     requires { ⌜ Sized q (now t) ⌝ }
-    requires { ⌜ Drawn q (now t) (Client q r (λ n. n < q)) ⌝ }
+    requires { ⌜ Drawn q (now t) (Listed q r (λ n. n < q)) ⌝ }
     ensures { λ _. ⌜ Writes q (now (t .entry)) (now (t .exit)) (raised r) 11 ⌝ }
     ensures { λ _. ⌜ Sized q (now (t .exit)) ⌝ }
 {
@@ -172,7 +172,7 @@ pub fn raise(t: &mut [u32], q: usize, r: u32)
 // The count of the client in row r falls by one, and not to 0.
 pub fn lower(t: &mut [u32], q: usize, r: u32)
     requires { ⌜ Sized q (now t) ⌝ }
-    requires { ⌜ Drawn q (now t) (Client q r (λ n. 2 ≤ n)) ⌝ }
+    requires { ⌜ Drawn q (now t) (Listed q r (λ n. 2 ≤ n)) ⌝ }
     ensures { λ _. ⌜ Writes q (now (t .entry)) (now (t .exit)) (lowered r) 11 ⌝ }
     ensures { λ _. ⌜ Sized q (now (t .exit)) ⌝ }
 {
@@ -246,7 +246,7 @@ fn clear_row(t: &mut [u32], q: usize, r: u32)
     table::set_client(t, q, r, LinkedTable::LIGHTER, 0);
 }
 
-// Row r becomes the first free one. Its words of the other layers are 0 already: the lookup clears its own, and nobody's items are its items.
+// Row r becomes the first free one. The words of the other layers in it are 0 already: the lookup has cleared its own, and a client that goes has no items.
 fn free_row(t: &mut [u32], q: usize, r: u32)
     requires { ⌜ Sized q (now t) ⌝ }
     requires { ⌜ r < q ⌝ }
@@ -259,11 +259,11 @@ fn free_row(t: &mut [u32], q: usize, r: u32)
     table::set_header(t, q, LinkedTable::FREE_CLIENT_AT, r);
 }
 
-// A client without items goes: out of its bucket, its group and the list, and its row is the first free one.
+// A client goes, out of its bucket, its group and the list, and its row becomes the first free one.
 pub fn dismiss(t: &mut [u32], q: usize, s: &[u32; 1024], r: u32)
     requires { ⌜ Sized q (now t) ⌝ }
     requires { ⌜ IsSpread (now s) ⌝ }
-    requires { ⌜ Drawn q (now t) (Client q r (λ n. Unit {0})) ⌝ }
+    requires { ⌜ Drawn q (now t) (Listed q r (λ n. Unit {0})) ⌝ }
     requires { ⌜ ((K : Kept q (now t)) × In r (K .clients)) ⌝ }
     ensures { λ _. ⌜ Writes q (now (t .entry)) (now (t .exit)) (dismissed q r) 12 ⌝ }
     ensures { λ _. ⌜ Sized q (now (t .exit)) ⌝ }

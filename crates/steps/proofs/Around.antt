@@ -18,7 +18,7 @@ use Rattle.rules.proofs.Rows.{all-so}
 use Rattle.rules.proofs.Parts.{hold-ordered, hold-queued, parts-hold}
 use Rattle.rules.proofs.Ready.{ready-right, ready-holds}
 use Rattle.links.proofs.Pools.{chain-so}
-use Rattle.order.proofs.Frames.{Alike, Beside, ordered-so}
+use Rattle.order.proofs.Frames.{Alike, Beside, ordered-alike}
 use Rattle.window.specs.Steps.{joined}
 use Rattle.window.proofs.Kept.{Keeps, queued-kept, joined-keeps}
 use Rattle.window.proofs.Joined.{joined-queued}
@@ -88,7 +88,7 @@ module _ {T S : Regions} (k : Keeps T S) where
   pub others-hold : {q : ℕ} {Q : Picture} → Right Q → Q .size ≡ q → Others q T Q → Queued q S (Q .window) (Q .freeItems) → Holds S Q
   others-hold {q} {Q} v e o w =
       parts-hold Q v S
-      (subst (λ (n : ℕ). Ordered n S (clientRows Q) (countOf (Q .window)) (Q .freeClients)) (sym e) (ordered-so alike (o .ordered)))
+      (subst (λ (n : ℕ). Ordered n S (clientRows Q) (countOf (Q .window)) (Q .freeClients)) (sym e) (ordered-alike alike (o .ordered)))
       (subst (λ (n : ℕ). Queued n S (Q .window) (Q .freeItems)) (sym e) w)
       (header-kept kind.markAt (λ e. omega (arith, e)) (λ e. omega (arith, e)) (λ e. omega (arith, e)) (λ e. omega (arith, e)) ∙ o .mark)
       (header-kept kind.sizeAt (λ e. omega (arith, e)) (λ e. omega (arith, e)) (λ e. omega (arith, e)) (λ e. omega (arith, e)) ∙ o .size ∙ sym e)

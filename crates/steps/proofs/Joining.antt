@@ -75,7 +75,7 @@ module _ {q : ℕ} {t : List ℕ} (y : Ready q t) (id ticket : ℕ) (room : 1 �
     less : n c < q
     less = omega (arith, own-few c (P .window), places P (ready-right y), y .size)
 
-    pub known-client : Drawn q t (order.Client q c (λ m. m < q))
+    pub known-client : Drawn q t (order.Listed q c (λ m. m < q))
     known-client =
         record { regs = R; drawn = whole-words; holds = record { rows = clientRows P; count = n; free = P .freeClients; ordered = ready-others y .ordered; there = there; counts = less } }
 

@@ -112,7 +112,7 @@ module _ {q : ℕ} {t : List ℕ} (y : Ready q t) (r : ℕ) (waits : In r (itemR
     fewer : n c ≡ countOf (withoutItem (it .row) (P .window)) c + 1
     fewer = subst (λ (s : ℕ). n s ≡ countOf (withoutItem (it .row) (P .window)) s + 1) is-client (rw out (omega (arith, count-more put)))
 
-    asked : (F : ℕ → Type 0) → F (n c) → Drawn q t (order.Client q c F)
+    asked : (F : ℕ → Type 0) → F (n c) → Drawn q t (order.Listed q c F)
     asked F h =
         record { regs = R; drawn = whole-words; holds = record { rows = clientRows P; count = n; free = P .freeClients; ordered = ready-others y .ordered; there = there-client; counts = h } }
 
@@ -135,7 +135,7 @@ module _ {q : ℕ} {t : List ℕ} (y : Ready q t) (r : ℕ) (waits : In r (itemR
       none : countOf (withoutItem (it .row) (P .window)) c ≡ 0
       none = omega (arith, fewer, sym counted ∙ only)
 
-      pub last-asks : Drawn q t (order.Client q c (λ m. Unit {0})) × ((K : Kept q t) × In c (K .clients))
+      pub last-asks : Drawn q t (order.Listed q c (λ m. Unit {0})) × ((K : Kept q t) × In c (K .clients))
       last-asks = (asked (λ m. Unit {0}) tt, (record { clients = clientRows P; chains = _; keeps = ready-kept y }, there-client))
 
       pub last-left : {a u : List ℕ} → Writes q t a (dismissed q c) 12 → Leaves q t a c → Writes q a u (left r) 12 → (u ≡ draw (leave P it)) × (altered t u ≤ 24)
@@ -152,7 +152,7 @@ module _ {q : ℕ} {t : List ℕ} (y : Ready q t) (r : ℕ) (waits : In r (itemR
           let not-one : n c ≡ 1 → ⊥ = λ e. several (counted ∙ e) in
           omega (arith, counts-one P (ready-right y) c there-client, not-one)
 
-      pub more-asks : Drawn q t (order.Client q c (λ m. 2 ≤ m))
+      pub more-asks : Drawn q t (order.Listed q c (λ m. 2 ≤ m))
       more-asks = asked (λ m. 2 ≤ m) two
 
       pub more-left : {a u : List ℕ} → Writes q t a (lowered c) 11 → Writes q a u (left r) 12 → (u ≡ draw (leave P it)) × (altered t u ≤ 23)

@@ -25,7 +25,10 @@ free-requires : tie.Need-free-requires
 free-requires c κs = search needs
 
 returns-3 : tie.Need-returns-3
-returns-3 c = checked-by _ _ _ (search needs) (tells-so (λ f. record { few = omega arith; window = told (c .before .before .window .ensures) (c .before .if2 .left); free = rw (c .before .before .before .before .header .ensures) at f }, λ w. rw (c .before .before .before .before .header .ensures) (w .free)) (c .free .ensures))
+returns-3 c =
+    let n = c .before .before .before .before .header .ensures in
+    checked-by _ _ _ (search needs)
+    (tells-so (λ f. record { few = omega arith; window = told (c .before .before .window .ensures) (c .before .if2 .left); free = rw n at f }, λ w. rw n (w .free)) (c .free .ensures))
 
 pub check-items-spec : {M : Type 1} → statement M
 check-items-spec =

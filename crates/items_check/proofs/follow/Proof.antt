@@ -78,7 +78,8 @@ same-length-6 c = search needs
 
 returns-3 : tie.Need-returns-3 Inv-loop μ-loop
 returns-3 c =
-    tells-no (λ w. refuted (c .before .joins .ensures) (c .if3 .taken) (first _ _ _ _ _ _ _ (c .before .before .before .before .before .before .before .loop-test .taken) (c .before .before .before .before .before .before .before .before .loop .inv .2 .1 w) _ (c .before .before .before .before .before .item .ensures) .joins))
+    let i = c .before .before .before .before .before in
+    tells-no (λ w. refuted (c .before .joins .ensures) (c .if3 .taken) (first _ _ _ _ _ _ _ (i .before .before .loop-test .taken) (i .before .before .before .loop .inv .2 .1 w) _ (i .item .ensures) .joins))
 
 mul-met : tie.Need-mul-met Inv-loop μ-loop
 mul-met c = search needs
@@ -88,7 +89,9 @@ slice-write-met c = search needs
 
 add-seen : tie.Need-add-seen Inv-loop μ-loop
 add-seen c =
-    let word = c .before .before .before .before .before .before .before .before .before .before .before .before .before .shared-slice-known .given (kind.clientAt (c .before .before .before .before .before .before .before .before .before .before .before .before .before .before .args .q) (c .before .before .before .before .before .item .result) kind.count) in
+    let i = c .before .before .before .before .before in
+    let s = i .before .before .before .before .before .before .before .before in
+    let word = s .shared-slice-known .given (kind.clientAt (s .before .args .q) (i .item .result) kind.count) in
     omega (arith, told (c .before .joins .ensures) (c .if3 .left) .room)
 
 mul-seen : tie.Need-mul-seen Inv-loop μ-loop

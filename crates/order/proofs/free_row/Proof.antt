@@ -20,7 +20,12 @@ same-length : tie.Need-same-length
 same-length c = search needs
 
 returns : tie.Need-returns
-returns c = (search (free-writes, needs), search needs)
+returns c =
+    let z = c .before .before in
+    let y = z .before .before .before .before in
+    let x = y .before .before .before .before in
+    let h = x .before .before in
+    (free-writes _ (h .header .ensures) (x .clear-row .ensures .0) (y .set-client .ensures .0) (z .set-header .ensures .0), search needs)
 
 pub free-row-spec : {M : Type 1} → statement M
 free-row-spec =
