@@ -174,10 +174,11 @@ module _ {q : ℕ} {t : List ℕ} (y : Ready q t) where
     fresh = apart-right c (clientRows P) (P .freeClients) (ready-right y .clients .distinct) (head-some kind.none (P .freeClients) room)
 
     new-ids : All (λ x. A .client (x .row) kind.id ≡ x .id) (client c id ∷ P .clients)
-    new-ids =
-        (rw first (at-same (λ r. R .client r kind.id) c id),
-        all-both (λ x. R .client (x .row) kind.id ≡ x .id) (λ x. c ≡ x .row → ⊥) _ (P .clients)
-        (λ x e f. rw first (at-other (λ r. R .client r kind.id) c id (x .row) (λ z. f (sym z))) ∙ e) (ready-others y .ids) (notin-all clientRow c (P .clients) fresh))
+    new-ids = (
+      rw first (at-same (λ r. R .client r kind.id) c id),
+      all-both (λ x. R .client (x .row) kind.id ≡ x .id) (λ x. c ≡ x .row → ⊥) _ (P .clients)
+          (λ x e f. rw first (at-other (λ r. R .client r kind.id) c id (x .row) (λ z. f (sym z))) ∙ e) (ready-others y .ids) (notin-all clientRow c (P .clients) fresh),
+    )
 
     -- nobody had that id
     own-id : (s : ℕ) → In s (clientRows P) → R .client s kind.id ≡ id → ⊥

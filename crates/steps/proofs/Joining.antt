@@ -97,9 +97,10 @@ module _ {q : ℕ} {t : List ℕ} (y : Ready q t) (id ticket : ℕ) (room : 1 �
           let is = join-known P (idOf (P .clients) c) ticket (ready-right y) c there refl in
           let v : Right (joinAs it ticket P) = subst Right is (join-step P (idOf (P .clients) c) ticket (ready-right y) room .right) in
           let o = others-moved y c there (raised-beside c R) (raised-book c R) (P .window ++ i ∷ []) (rest (P .freeItems)) (n c + 1) (counts-put (put-last i (P .window)))
-              (λ e. omega (arith, e, count-more (put-last i (P .window)))) (raised-ordered (ready-sized y .small) (ready-others y .ordered) c there less) in
-          (join-drawn (raised c) P it ticket e y v (y .size) known-row newest room queued o x z ∙ ap draw (sym is) ∙ ap (λ (m : ℕ). draw (join P m ticket)) (sym (names c there) ∙ name),
-          omega (arith, then x z .few))
+          (λ e. omega (arith, e, count-more (put-last i (P .window)))) (raised-ordered (ready-sized y .small) (ready-others y .ordered) c there less) in (
+            join-drawn (raised c) P it ticket e y v (y .size) known-row newest room queued o x z ∙ ap draw (sym is) ∙ ap (λ (m : ℕ). draw (join P m ticket)) (sym (names c there) ∙ name),
+            omega (arith, then x z .few),
+          )
 
   -- a new one
   module _ (absent : Found (lookup.idOf q t) (clientRows P) id kind.none) where
@@ -138,9 +139,10 @@ module _ {q : ℕ} {t : List ℕ} (y : Ready q t) (id ticket : ℕ) (room : 1 �
 
       pub new-room : (r < q) × Room q a r kind.none
       new-room =
-          rw (hr, first)
-          (new-row y free-room,
-          record { shown = record { regs = admitted q id R; window = P .window; free = P .freeItems; drawn = draws (ready-sized y) x; queued = queued-new }; some = room; newest = newly })
+          rw (hr, first) (
+            new-row y free-room,
+            record { shown = record { regs = admitted q id R; window = P .window; free = P .freeItems; drawn = draws (ready-sized y) x; queued = queued-new }; some = room; newest = newly },
+          )
 
       pub new-joined : {u : List ℕ} → Enters q t a id r → Writes q a u (joined r ticket kind.none) 12 → (u ≡ draw (join P id ticket)) × (altered t u ≤ 24)
       new-joined {u} enters z =
@@ -148,6 +150,7 @@ module _ {q : ℕ} {t : List ℕ} (y : Ready q t) (id ticket : ℕ) (room : 1 �
           let is = join-new P id ticket new-id in
           let v : Right (joinAs (client c id) ticket (admit id P)) = subst Right is (join-step P id ticket (ready-right y) room .right) in
           let one : countOf (P .window ++ i ∷ []) ≡ at n c 1 = counts-put (put-last i (P .window)) ∙ ap (λ (m : ℕ). at n c (m + 1)) (ap length none-own) in
-          let o = others-new y id (draws (ready-sized y) x) (subst (Enters q t a id) hr enters) new-id free-room (P .window ++ i ∷ []) (rest (P .freeItems)) one in
-          (join-drawn (admitted q id) (admit id P) (client c id) ticket kind.none y v (y .size) (new-row y free-room) newly room queued-new o x (subst (λ (m : ℕ). Writes q a u (joined m ticket kind.none) 12) (hr ∙ first) z) ∙ ap draw (sym is),
-          omega (arith, then x z .few))
+          let o = others-new y id (draws (ready-sized y) x) (subst (Enters q t a id) hr enters) new-id free-room (P .window ++ i ∷ []) (rest (P .freeItems)) one in (
+            join-drawn (admitted q id) (admit id P) (client c id) ticket kind.none y v (y .size) (new-row y free-room) newly room queued-new o x (subst (λ (m : ℕ). Writes q a u (joined m ticket kind.none) 12) (hr ∙ first) z) ∙ ap draw (sym is),
+            omega (arith, then x z .few),
+          )

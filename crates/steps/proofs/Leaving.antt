@@ -161,5 +161,5 @@ module _ {q : ℕ} {t : List ℕ} (y : Ready q t) (r : ℕ) (waits : In r (itemR
           let is = leave-more P it (λ e. some (sym (ap (countOf (withoutItem (it .row) (P .window))) is-client) ∙ e)) in
           let j = leave-step P it others (ready-right y) put in
           let o = others-moved y c there-client (lowered-beside c R) (lowered-book c R) (withoutItem (it .row) (P .window)) (it .row ∷ P .freeItems) (n c - 1) counts some
-              (lowered-ordered (ready-sized y .small) (ready-others y .ordered) c there-client two) in
+          (lowered-ordered (ready-sized y .small) (ready-others y .ordered) c there-client two) in
           (rw is (leave-drawn (lowered c) (lowered-beside c R) x _ (subst Right is (j .right)) (y .size) refl refl (rw is-client o) z), omega (arith, then x z .few))

@@ -24,4 +24,20 @@ join-known-requires c κs =
     let f = c .before .before in
     let p = f .before .before .before .pre in
     (p .0, (f .find .ensures _ _ (ready-kept (p .0)) .row (c .before .if1 .left), p .1 .1))
-REST
+
+same-length : tie.Need-same-length
+same-length c = search needs
+
+returns : tie.Need-returns
+returns c = search needs
+
+same-length-2 : tie.Need-same-length-2
+same-length-2 c = search needs
+
+returns-2 : tie.Need-returns-2
+returns-2 c = search needs
+
+pub join-spec : {M : Type 1} → statement M
+join-spec =
+    tie.close
+    (tie.spec find-requires join-new-requires join-known-requires same-length returns same-length-2 returns-2)

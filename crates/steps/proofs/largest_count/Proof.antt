@@ -18,4 +18,8 @@ returns : tie.Need-returns
 returns c =
     let p = c .before .before .before .pre in
     heavy-count (p .0) (p .1) (c .before .header .ensures) (c .client .ensures)
-CLOSE
+
+pub largest-count-spec : {M : Type 1} → statement M
+largest-count-spec =
+    tie.close
+    (tie.spec header-requires client-requires returns)

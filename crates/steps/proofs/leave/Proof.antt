@@ -42,4 +42,32 @@ leave-more-requires c κs =
     let i = n .before .before .before .before .before .before in
     let p = i .before .before .before .pre in
     (p .0, ((p .1 .1, sym (i .item .ensures)), λ e. c .before .if1 .left (n .client2 .ensures ∙ e)))
-REST
+
+same-length : tie.Need-same-length
+same-length c = search needs
+
+returns : tie.Need-returns
+returns c =
+    let d = c .before .before in
+    let k = d .before .before .before .before .before in
+    let n = k .before .before in
+    let i = n .before .before in
+    let p = i .before .before .before .pre in
+    (item-told (p .0) _ (p .1 .1) _ (sym (i .item .ensures)) (n .client .ensures) (k .item2 .ensures), d .leave-last .ensures)
+
+same-length-2 : tie.Need-same-length-2
+same-length-2 c = search needs
+
+returns-2 : tie.Need-returns-2
+returns-2 c =
+    let d = c .before .before in
+    let k = d .before .before .before .before .before in
+    let n = k .before .before in
+    let i = n .before .before in
+    let p = i .before .before .before .pre in
+    (item-told (p .0) _ (p .1 .1) _ (sym (i .item .ensures)) (n .client .ensures) (k .item2 .ensures), (d .leave-more .ensures .0, omega (arith, d .leave-more .ensures .1)))
+
+pub leave-spec : {M : Type 1} → statement M
+leave-spec =
+    tie.close
+    (tie.spec item-requires client-requires item-requires-2 client-requires-2 leave-last-requires leave-more-requires same-length returns same-length-2 returns-2)

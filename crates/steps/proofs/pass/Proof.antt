@@ -1,26 +1,32 @@
+-- The front item leaves.
 use borrow.Author.Needs.{needs}
+use lib.Dec.{lit<}
+use Rattle.rules.proofs.Ready.{ready-sized}
+use Rattle.steps.proofs.Reading.{front-waits, pass-drawn}
 use Rattle.steps.proofs.pass.Statement.{statement}
 use Rattle.steps.proofs.pass.Tie as tie
-use Rattle.steps.proofs.pass.Reads as reads
-use Rattle.steps.proofs.pass.Lts as lts
-use Rattle.steps.proofs.leave.Reads as leave-reads
-use Rattle.table.proofs.header.Reads as header-reads
 
--- src/lib.rt:176:9
 header-requires : tie.Need-header-requires
-header-requires c κs = ?
+header-requires c κs = (ready-sized (c .before .before .pre .0), lit< tt)
 
--- src/lib.rt:177:5
 leave-requires : tie.Need-leave-requires
-leave-requires c κs = ?
+leave-requires c κs =
+    let h = c .before in
+    let p = h .before .before .before .pre in
+    (p .0, (p .1 .0, front-waits (p .0) (p .1 .1) (h .header .ensures) .0))
 
--- src/lib.rt:168:1
 same-length : tie.Need-same-length
 same-length c = search needs
 
--- src/lib.rt:168:1
 returns : tie.Need-returns
-returns c = ?
+returns c =
+    let d = c .before .before in
+    let h = d .before .before in
+    let p = h .before .before .before .pre in
+    let r = pass-drawn (p .0) (p .1 .1) (h .header .ensures) (d .leave .ensures .0) (d .leave .ensures .1 .0) in
+    (r .0, (r .1, d .leave .ensures .1 .1))
 
 pub pass-spec : {M : Type 1} → statement M
-pass-spec = tie.close (tie.spec header-requires leave-requires same-length returns)
+pass-spec =
+    tie.close
+    (tie.spec header-requires leave-requires same-length returns)
