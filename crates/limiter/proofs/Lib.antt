@@ -2,3 +2,4 @@
 pub mod Lent
 pub mod Questions
 pub mod Changed
+pub mod Sharing
