@@ -7,10 +7,19 @@ use Prim.Native.Nat.{ℕ, zero, suc, _+_, _*_, _≤_, _<_}
 use native.Mathlib.Omega.{arith}
 use native.Mathlib.Nat.{mul-suc, zero-mul, not-suc-le-zero}
 use lib.Dec.{eqb, leb}
-use lib.ListN.{length}
+use lib.ListN.{length, take}
 use borrow.Author.Tests.{eqb-true, eqb-false, leb-true}
 use Rattle.rules.specs.Rows.{In, All, Rising, lastOr}
 use Rattle.rules.specs.History.{Request, Waiting, Choice, joined, evicted, turned, count, newest, heaviestClient, largestCount, full, choice}
+use Rattle.rules.specs.Picture.{Item, Client, Picture, clientRow, clientId, countOf, idOf, requestOf, plain}
+use Rattle.rules.specs.Sound.{picture, Right}
+use Rattle.rules.specs.Verdict.{room, verdict}
+use Rattle.rules.proofs.Plain.{clients-plain}
+use Rattle.rules.proofs.Ready.{ready-right}
+use Rattle.rules.proofs.Right.{clients-distinct}
+use Rattle.limiter.specs.Lent.{waitingIn}
+use Rattle.limiter.specs.Calls.{placesIn, arriveChoice}
+use Rattle.limiter.proofs.Lent.{accepted}
 
 -- the requests of the clients in a list, all together
 abbrev total : List Request → List ℕ → ℕ
@@ -100,3 +109,43 @@ module _ (s : Waiting) (q i : ℕ) (known : All (λ r. In (r .id) (s .order)) (s
           let n : heaviestClient s ≡ i = sym (newest-id (heaviestClient s) (s .window) (some (largestCount s) (length (s .order)) (omega (arith, filled f, light)))) ∙ ap whose h ∙ e in
           not-largest f (ap (λ (x : ℕ). count x (s .window)) (sym n))
       go false f b h e = let z : _≡_ {A = ℕ} 0 1 = ap code h in omega (arith, z)
+
+-- a client's id is one of the ids, and its requests are known by it
+id-in : (cs : List Client) (c : ℕ) → In c (map clientRow cs) → In (idOf cs c) (map clientId cs)
+id-in [] c i = absurd i
+id-in (x ∷ cs) c i = go (eqb (x .row) c) refl (id-in cs c)
+  where
+    go : (b : Bool) → eqb (x .row) c ≡ b → (In c (map clientRow cs) → In (idOf cs c) (map clientId cs)) → In (cond b (x .id) (idOf cs c)) (map clientId (x ∷ cs))
+    go true e h = inl refl
+    go false e h = ⊎-elim (λ f. absurd (eqb-false (x .row) c e (sym f))) (λ j. inr (h j)) i
+
+owners-known : (cs : List Client) (w : List Item) → All (λ i. In (i .client) (map clientRow cs)) w → All (λ r. In (r .id) (map clientId cs)) (map (requestOf cs) w)
+owners-known cs [] a = tt
+owners-known cs (x ∷ w) a = (id-in cs (x .client) (a .0), owners-known cs w (a .1))
+
+rises-so : (f g : ℕ → ℕ) (m : ℕ) (cs : List Client) → All (λ c. g (c .id) ≡ f (c .row)) cs → Rising m (map f (map clientRow cs)) → Rising m (map g (map clientId cs))
+rises-so f g m [] a u = tt
+rises-so f g m (c ∷ cs) a u = rw (a .0) (u .0, rises-so f g (f (c .row)) cs (a .1) (u .1))
+
+-- on lent words that are not refused: a light client is not turned away, and whoever arrives evicts no request of it
+module _ (t : List ℕ) (i : ℕ) (sound : 0 ≡ verdict t) (light : count i (waitingIn t .window) * length (waitingIn t .order) < placesIn t) where
+  abbrev lent : Picture
+  lent = picture (take (room t) t)
+
+  right : Right lent
+  right = ready-right (accepted t sound .ready)
+
+  known : All (λ r. In (r .id) (waitingIn t .order)) (waitingIn t .window)
+  known = owners-known (lent .clients) (lent .window) (right .owners)
+
+  rises : Rising 1 (map (λ x. count x (waitingIn t .window)) (waitingIn t .order))
+  rises =
+      rises-so (countOf (lent .window)) (λ x. count x (waitingIn t .window)) 1 (lent .clients)
+      (clients-plain (lent .clients) (right .ids) (lent .window) (clients-distinct lent right) (right .owners))
+      (right .counts)
+
+  pub light-not-turned : arriveChoice i t ≡ turned → ⊥
+  light-not-turned = not-turned (waitingIn t) (placesIn t) i known rises light
+
+  pub light-not-evicted : (j : ℕ) (r : Request) → arriveChoice j t ≡ evicted r → r .id ≡ i → ⊥
+  light-not-evicted = not-evicted (waitingIn t) (placesIn t) i known rises light
