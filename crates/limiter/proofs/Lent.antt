@@ -36,7 +36,7 @@ pub record Accepted (t : List ℕ) : Type 0 where
   pub long : room t ≤ length t
   pub ready : Ready (getD t kind.sizeAt 0) (take (room t) t)
 
-accepted : (t : List ℕ) → 0 ≡ verdict t → Accepted t
+pub accepted : (t : List ℕ) → 0 ≡ verdict t → Accepted t
 unfolding verdict
 accepted t e =
     let ((h, m), (l, s)) = passed _ _ _ _ (sym e) in

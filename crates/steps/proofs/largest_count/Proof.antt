@@ -1,5 +1,4 @@
 -- The heaviest client is the last of the order, and its count is the largest.
-use borrow.Author.Needs.{needs}
 use lib.Dec.{lit<}
 use Rattle.rules.proofs.Ready.{ready-sized}
 use Rattle.steps.proofs.Reading.{heavy-row, heavy-count}
