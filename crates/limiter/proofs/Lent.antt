@@ -9,13 +9,12 @@ use lib.ListN.{length, getD, take}
 use lib.Seq.{getD-take}
 use borrow.Author.Tests.{ltb-false, ne-eqb}
 use Rattle.table.specs.Kind as kind
-use Rattle.rules.specs.History.{Waiting}
-use Rattle.rules.specs.Picture.{plain}
+use Rattle.rules.specs.Picture.{Picture}
 use Rattle.rules.specs.Sound.{picture}
 use Rattle.rules.specs.Ready.{Ready}
 use Rattle.rules.specs.Verdict.{room, verdict}
 use Rattle.rules.proofs.Decide.{_&_, eqb-decides, range-decides}
-use Rattle.limiter.specs.Lent.{waitingIn, orRefused, refusalOf, numbersOf}
+use Rattle.limiter.specs.Lent.{orRefused, refusalOf, numbersOf}
 
 -- every test of a verdict of 0 passed
 passed : (a b c d : Bool) → _≡_ {A = ℕ} (cond a 2 (cond b (cond c 2 (cond d 0 3)) 3)) 0 → ((a ≡ false) × (b ≡ true)) × ((c ≡ false) × (d ≡ true))
@@ -37,7 +36,7 @@ pub record Accepted (t : List ℕ) : Type 0 where
   pub long : room t ≤ length t
   pub ready : Ready (getD t kind.sizeAt 0) (take (room t) t)
 
-accepted : (t : List ℕ) → 0 ≡ verdict t → Accepted t
+pub accepted : (t : List ℕ) → 0 ≡ verdict t → Accepted t
 unfolding verdict
 accepted t e =
     let ((h, m), (l, s)) = passed _ _ _ _ (sym e) in
@@ -65,8 +64,8 @@ module _ (t : List ℕ) {v : ℕ} (is : v ≡ verdict t) where
       pub part-ready : Ready (getD t kind.sizeAt 0) (take need t)
       part-ready = rw size (accepts .ready)
 
-      pub answers : {A : Type 0} (refused : ℕ → A) (answer : Waiting → A) {r : A} → r ≡ answer (plain (picture (take need t))) → r ≡ orRefused refused t (answer (waitingIn t))
-      answers refused answer e = rw (← is, none) (e ∙ ap (λ (n : ℕ). answer (plain (picture (take n t)))) size)
+      pub answers : {A : Type 0} (refused : ℕ → A) (answer : Picture → A) {r : A} → r ≡ answer (picture (take need t)) → r ≡ orRefused refused t (answer (picture (take (room t) t)))
+      answers refused answer e = rw (← is, none) (e ∙ ap (λ (n : ℕ). answer (picture (take n t))) size)
 
 -- document 01's numbers of an answer, from those of the answer of a table that is not refused
 module _ {A : Type 0} (numbers : A → List ℕ) (refused : ℕ → A) (values : List ℕ) (by : (v : ℕ) → numbers (refused v) ≡ v ∷ map (λ _. 0) values) where

@@ -73,13 +73,13 @@ module _ (t : List ℕ) {v : ℕ} (is : v ≡ verdict t) where
         → r ≡ listedReply k (length out) (plain (picture (take need t))) → after ≡ listedWords listing k (plain (picture (take need t))) out
         → Listing listing k t out r after
     listing-answers listing k out e w =
-        let a = answers t is none size listed.Refused (listedReply k (length out)) e in
-        (a, (listed-numbers k (length out) t a, answers t is none size (λ _. out) (λ s. listedWords listing k s out) w))
+        let a = answers t is none size listed.Refused (λ P. listedReply k (length out) (plain P)) e in
+        (a, (listed-numbers k (length out) t a, answers t is none size (λ _. out) (λ P. listedWords listing k (plain P) out) w))
 
     pub count-answers : (i : ℕ) {n : ℕ} → n ≡ countOf (plain (picture (take need t))) i → Counting i t (counted.Number n)
     count-answers i e =
-        let a = answers t is none size counted.Refused (λ s. counted.Number (countOf s i)) (ap counted.Number e) in
+        let a = answers t is none size counted.Refused (λ P. counted.Number (countOf (plain P) i)) (ap counted.Number e) in
         (a, counted-numbers i t a)
 
     pub ticket-answers : (ticket : Waiting → ℕ → ℕ) (i : ℕ) {r : Told} → r ≡ toldReply ticket (plain (picture (take need t))) i → Telling ticket i t r
-    ticket-answers ticket i e = let a = answers t is none size told.Refused (λ s. toldReply ticket s i) e in (a, told-numbers ticket i t a)
+    ticket-answers ticket i e = let a = answers t is none size told.Refused (λ P. toldReply ticket (plain P) i) e in (a, told-numbers ticket i t a)

@@ -2,12 +2,20 @@
 // A call makes the spread table, takes the verdict on the lent words, and works in the part of them that is the table.
 ghost use mathlib.Core.Path.{_≡_};
 ghost use mathlib.Core.List.{[], _∷_};
+ghost use Prim.Native.Nat.{_≤_};
 ghost use lib.ListN.{length};
+ghost use Rattle.table.specs.Regions.{altered};
 ghost use Rattle.rules.specs.History as history;
+ghost use Rattle.rules.specs.Steps as steps;
+ghost use Rattle.rules.specs.Verdict.{afterwards};
 ghost use Rattle.limiter.specs.Lent.{waitingIn, numbersOf};
 ghost use Rattle.limiter.specs.Questions.{listedAnswer, listedOut, listedNumber, listedNumbers, countedAnswer, countedNumber, countedNumbers, toldAnswer, toldNumber, toldNumbers};
+ghost use Rattle.limiter.specs.Calls.{arriveChoice, arriveAnswer, arriveNumber, choiceValues, arrivedNumbers, slideLeaves, slideAnswer, slideNumber, slideValues, slidNumbers, serveAnswer, serveNumber, serveValues, servedNumbers};
 use questions::Listed;
 use questions::Told;
+use steps::Arrived;
+use steps::Served;
+use steps::Slid;
 use table::LinkedTable;
 
 // What count answers: how many requests wait, or the number of the refusal.
@@ -91,4 +99,55 @@ pub fn newest(t: &[u32], id: u32) -> Told
     let q = t[LinkedTable::SIZE_AT] as usize;
     let need = LinkedTable::size(q);
     questions::newest(&t[..need], q, &s, id)
+}
+
+// A request arrives: it joins, a request of the heaviest client leaves for it, or its client is turned away.
+pub fn arrive(t: &mut [u32], id: u32, ticket: u32) -> Arrived
+    ensures reply { λ r. ⌜ r ≡ arriveAnswer id (now (t .entry)) ⌝ }
+    ensures numbers { λ r. ⌜ arrivedNumbers r ≡ numbersOf (arriveNumber (now (t .entry))) (choiceValues (arriveChoice id (now (t .entry)))) ⌝ }
+    ensures words { λ _. ⌜ now (t .exit) ≡ afterwards (λ P. steps.arrived P id ticket) (now (t .entry)) ⌝ }
+    ensures few { λ _. ⌜ altered (now (t .entry)) (now (t .exit)) ≤ 48 ⌝ }
+{
+    let s = spread::table();
+    let v = verdict::of(t, &s);
+    if v != 0 {
+        return Arrived::Refused(v);
+    }
+    let q = t[LinkedTable::SIZE_AT] as usize;
+    let need = LinkedTable::size(q);
+    steps::arrive(&mut t[..need], q, &s, id, ticket)
+}
+
+// A request joins; where the window is full, the front request leaves first.
+pub fn slide(t: &mut [u32], id: u32, ticket: u32) -> Slid
+    ensures reply { λ r. ⌜ r ≡ slideAnswer (now (t .entry)) ⌝ }
+    ensures numbers { λ r. ⌜ slidNumbers r ≡ numbersOf (slideNumber (now (t .entry))) (slideValues (slideLeaves (now (t .entry)))) ⌝ }
+    ensures words { λ _. ⌜ now (t .exit) ≡ afterwards (λ P. steps.slid P id ticket) (now (t .entry)) ⌝ }
+    ensures few { λ _. ⌜ altered (now (t .entry)) (now (t .exit)) ≤ 48 ⌝ }
+{
+    let s = spread::table();
+    let v = verdict::of(t, &s);
+    if v != 0 {
+        return Slid::Refused(v);
+    }
+    let q = t[LinkedTable::SIZE_AT] as usize;
+    let need = LinkedTable::size(q);
+    steps::slide(&mut t[..need], q, &s, id, ticket)
+}
+
+// The front request leaves and is the reply; where nobody waits, no word alters.
+pub fn serve(t: &mut [u32]) -> Served
+    ensures reply { λ r. ⌜ r ≡ serveAnswer (now (t .entry)) ⌝ }
+    ensures numbers { λ r. ⌜ servedNumbers r ≡ numbersOf (serveNumber (now (t .entry))) (serveValues (history.served (waitingIn (now (t .entry))))) ⌝ }
+    ensures words { λ _. ⌜ now (t .exit) ≡ afterwards (steps.served) (now (t .entry)) ⌝ }
+    ensures few { λ _. ⌜ altered (now (t .entry)) (now (t .exit)) ≤ 24 ⌝ }
+{
+    let s = spread::table();
+    let v = verdict::of(t, &s);
+    if v != 0 {
+        return Served::Refused(v);
+    }
+    let q = t[LinkedTable::SIZE_AT] as usize;
+    let need = LinkedTable::size(q);
+    steps::serve(&mut t[..need], q, &s)
 }

@@ -1,0 +1,7 @@
+-- Laws of the steps on ready tables.
+pub mod Around
+pub mod Clients
+pub mod Joining
+pub mod Leaving
+pub mod Reading
+pub mod Choices

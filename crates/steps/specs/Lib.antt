@@ -1,0 +1,3 @@
+-- What the steps speak of besides the rules.
+pub mod Items
+pub mod Replies
