@@ -1,4 +1,4 @@
--- The words that the layer above reads: a client's oldest and newest item, and the item at the front.
+-- The words that the layer above reads: a client's newest item, and the item at the front.
 use mathlib.Core.List.{List, [], _∷_}
 use mathlib.Core.Path.{_≡_, sym, _∙_}
 use Prim.Native.Nat.{ℕ, _≤_, _<_}
@@ -6,19 +6,16 @@ use native.Mathlib.Nat.{not-suc-le-zero}
 use lib.ListN.{length}
 use Rattle.table.specs.Kind as kind
 use Rattle.table.specs.Regions.{Regions}
-use Rattle.rules.specs.Rows.{headOr, lastOr}
+use Rattle.rules.specs.Rows.{lastOr}
 use Rattle.rules.specs.Picture.{Item, ownRows, countOf}
 use Rattle.rules.specs.Steps.{newestItem, frontItem}
 use Rattle.rules.specs.Parts.{Queued}
-use Rattle.rules.proofs.Rows.{head-any, last-any}
+use Rattle.rules.proofs.Rows.{last-any}
 use Rattle.rules.proofs.Columns.{first-is}
 use Rattle.rules.proofs.Leaving.{newest-row}
 
 module _ {q : ℕ} {R : Regions} {w : List Item} {free : List ℕ} (k : Queued q R w free) where
   module _ (c : ℕ) (hc : c < q) (some : 1 ≤ countOf w c) where
-    pub oldest-own : R .client c kind.oldest ≡ headOr kind.none (ownRows c w)
-    oldest-own = k .own c hc .oldest ∙ head-any 0 kind.none (ownRows c w) some
-
     pub newest-own : R .client c kind.newest ≡ lastOr kind.none (ownRows c w)
     newest-own = k .own c hc .newest ∙ last-any 0 kind.none (ownRows c w) some
 

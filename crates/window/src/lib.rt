@@ -93,23 +93,7 @@ pub fn leave(t: &mut [u32], q: usize, r: u32)
     table::set_header(t, q, LinkedTable::REQUESTS_AT, n - 1);
 }
 
-// The item row at the front of the window.
-pub fn front(t: &[u32], q: usize) -> u32
-    requires { ⌜ Sized q (now t) ⌝ }
-    ensures { λ r. ⌜ r ≡ getD (now (t .entry)) kind.frontAt 0 ⌝ }
-{
-    table::header(t, q, LinkedTable::FRONT_AT)
-}
-
-// The oldest and the newest item row of the client in row c, which has one.
-pub fn oldest(t: &[u32], q: usize, c: u32) -> u32
-    requires { ⌜ Sized q (now t) ⌝ }
-    requires { ⌜ c < q ⌝ }
-    ensures { λ r. ⌜ r ≡ clientWord (now (t .entry)) q c kind.oldest ⌝ }
-{
-    table::client(t, q, c, LinkedTable::OLDEST)
-}
-
+// The newest item row of the client in row c, which has one.
 pub fn newest(t: &[u32], q: usize, c: u32) -> u32
     requires { ⌜ Sized q (now t) ⌝ }
     requires { ⌜ c < q ⌝ }
