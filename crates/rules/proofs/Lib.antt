@@ -19,6 +19,7 @@ pub mod Settle
 pub mod Moves
 pub mod Leaving
 pub mod Steps
+pub mod Run
 pub mod Moved
 pub mod Written
 pub mod Ready

@@ -1,0 +1,2 @@
+-- Laws of a run.
+pub mod Tally
