@@ -1,3 +1,5 @@
+use Rattle.run.proofs.Tally.{arrive-done, slide-done, serve-done}
+use Rattle.rules.specs.Sound.{picture}
 use borrow.Author.Needs.{needs}
 use Rattle.run.proofs.carry_out.Statement.{statement}
 use Rattle.run.proofs.carry_out.Tie as tie
@@ -24,7 +26,8 @@ same-length c = search needs
 
 -- src/lib.rt:143:9
 returns : tie.Need-returns
-returns c = ?
+returns c = let a = c .before .before .before .before .before .before .before .before .args in
+    arrive-done (picture (a .t .now)) (a .ran) (a .c) (search needs) (c .before .before .before .arrive .ensures .0) (c .tally-arrive .ensures) (c .before .before .before .arrive .ensures .1 .0)
 
 -- src/lib.rt:146:33
 slide-requires : tie.Need-slide-requires
@@ -40,7 +43,8 @@ same-length-2 c = search needs
 
 -- src/lib.rt:146:9
 returns-2 : tie.Need-returns-2
-returns-2 c = ?
+returns-2 c = let a = c .before .before .before .before .before .before .before .before .before .before .args in
+    slide-done (picture (a .t .now)) (a .ran) (a .c) (search needs) (search needs) (c .before .before .before .slide .ensures .0) (c .tally-slide .ensures) (c .before .before .before .slide .ensures .1 .0)
 
 -- src/lib.rt:148:22
 serve-requires : tie.Need-serve-requires
@@ -56,7 +60,8 @@ same-length-3 c = search needs
 
 -- src/lib.rt:135:1
 returns-3 : tie.Need-returns-3
-returns-3 c = ?
+returns-3 c = let a = c .before .before .before .before .before .before .before .before .before .before .args in
+    serve-done (picture (a .t .now)) (a .ran) (a .c) (search needs) (search needs) (c .before .before .before .serve .ensures .0) (c .tally-serve .ensures) (c .before .before .before .serve .ensures .1 .0)
 
 pub carry-out-spec : {M : Type 1} → statement M
 carry-out-spec =

@@ -31,7 +31,7 @@ number-requires-2 c κs = search needs
 
 -- src/lib.rt:58:1
 returns : tie.Need-returns
-returns c = command-read _ _ (c .before .number .ensures) (c .number2 .ensures)
+returns c = let args = c .before .before .before .before .args in command-read (args .s .now) (args .at) (c .before .number .ensures) (c .number2 .ensures)
 
 pub command-at-spec : {M : Type 1} → statement M
 command-at-spec =
