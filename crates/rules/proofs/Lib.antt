@@ -22,4 +22,5 @@ pub mod Steps
 pub mod Moved
 pub mod Written
 pub mod Ready
+pub mod OneOutcome
 pub mod Cases
