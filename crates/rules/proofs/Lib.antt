@@ -23,4 +23,5 @@ pub mod Run
 pub mod Moved
 pub mod Written
 pub mod Ready
+pub mod OneOutcome
 pub mod Cases
