@@ -9,6 +9,7 @@ use Rattle.questions.specs.declared.Listed.{Listed}
 use Rattle.steps.specs.declared.Arrived.{Arrived}
 use Rattle.steps.specs.declared.Slid.{Slid}
 use Rattle.steps.specs.declared.Served.{Served}
+use Rattle.run.specs.declared.Ran.{Ran}
 use Rattle.limiter.proofs.heaviest.Reads as heaviest
 use Rattle.limiter.proofs.lightest.Reads as lightest
 use Rattle.limiter.proofs.count.Reads as count
@@ -17,6 +18,7 @@ use Rattle.limiter.proofs.newest.Reads as newest
 use Rattle.limiter.proofs.arrive.Reads as arrive
 use Rattle.limiter.proofs.slide.Reads as slide
 use Rattle.limiter.proofs.serve.Reads as serve
+use Rattle.limiter.proofs.run.Reads as run
 
 pub heaviest-once : (κs : Lfts 2) → OneOutcome {O = Listed × List ℕ} (heaviest.Post κs) (λ r s. (r, now (s .1 .1 .0)))
 heaviest-once κs = one-outcome _ _ _ (λ a r s p. both (p .0) (p .1 .1))
@@ -41,3 +43,6 @@ slide-once κs = one-outcome _ _ _ (λ a r s p. both (p .0) (p .1 .1 .0))
 
 pub serve-once : (κs : Lfts 1) → OneOutcome {O = Served × List ℕ} (serve.Post κs) (λ r s. (r, now (s .0)))
 serve-once κs = one-outcome _ _ _ (λ a r s p. both (p .0) (p .1 .1 .0))
+
+pub run-once : (κs : Lfts 2) → OneOutcome {O = Ran × List ℕ} (run.Post κs) (λ r s. (r, now (s .0)))
+run-once κs = one-outcome _ _ _ (λ a r s p. both (p .0) (p .1))

@@ -12,8 +12,10 @@ ghost use Rattle.rules.specs.Verdict.{afterwards};
 ghost use Rattle.limiter.specs.Lent.{waitingIn, numbersOf, Opens};
 ghost use Rattle.limiter.specs.Questions.{listedAnswer, listedOut, listedNumber, listedNumbers, countedAnswer, countedNumber, countedNumbers, toldAnswer, toldNumber, toldNumbers};
 ghost use Rattle.limiter.specs.Calls.{arriveChoice, arriveAnswer, arriveNumber, choiceValues, arrivedNumbers, slideLeaves, slideAnswer, slideNumber, slideValues, slidNumbers, serveAnswer, serveNumber, serveValues, servedNumbers};
+ghost use Rattle.limiter.specs.Runs.{runAnswer, runWords};
 use questions::Listed;
 use questions::Told;
+use run::Ran;
 use steps::Arrived;
 use steps::Served;
 use steps::Slid;
@@ -171,4 +173,18 @@ pub fn serve(t: &mut [u32]) -> Served
     }
     let words = o.words;
     steps::serve(&mut t[..words], o.places, &s)
+}
+
+// Carries out commands of nine bytes until one of the four stops; the table is checked once.
+pub fn run(t: &mut [u32], bytes: &[u8], budget: u64) -> Ran
+    ensures reply { λ r. ⌜ r ≡ runAnswer budget (now (bytes .entry)) (now (t .entry)) ⌝ }
+    ensures words { λ _. ⌜ now (t .exit) ≡ runWords budget (now (bytes .entry)) (now (t .entry)) ⌝ }
+{
+    let s = spread::table();
+    let o = opening(t, &s);
+    if o.number != 0 {
+        return run::refused(o.number);
+    }
+    let words = o.words;
+    run::run(&mut t[..words], o.places, &s, bytes, budget)
 }

@@ -19,8 +19,8 @@ use Rattle.rules.proofs.Ready.{ready-right, ready-drawn, drawn-ready, drawn-pic
 use Rattle.run.specs.declared.Command.{Command}
 use Rattle.run.specs.declared.Ran.{Ran}
 use Rattle.run.specs.Tally.{commandAt, isKnown, asCommand, none, halted, tally, Within}
-use Rattle.run.specs.Runs.{ranFrom}
-use Rattle.run.proofs.Runs.{Same, stopped, goes}
+use Rattle.run.specs.Runs.{reported}
+use Rattle.run.proofs.Runs.{ranFrom, from-none, Same, stopped, goes}
 
 -- a 64-bit length
 abbrev pub bound : ℕ
@@ -33,21 +33,22 @@ pub record Going (q : ℕ) (t₀ : List ℕ) (bytes : List ℕ) (budget : ℕ) (
   pub within : Within (ran .done) ran
   pub running : ran .stop ≡ 0
   pub ready : Ready q t
-  pub same : Same ran (picture t) (budget - ran .done) (drop at bytes) (ranFrom none (picture t₀) budget bytes) (nextAll (picture t₀) (carried budget bytes))
+  pub same : Same ran (picture t) (budget - ran .done) (drop at bytes) (reported (picture t₀) budget bytes) (nextAll (picture t₀) (carried budget bytes))
 
 -- before the first command
-pub starts : (q : ℕ) (t bytes : List ℕ) (budget : ℕ) → Ready q t → Going q t bytes budget t 0 none
-starts q t bytes budget y =
+pub starts : (q : ℕ) (t bytes : List ℕ) (budget : ℕ) {r : Ran} → Ready q t → r ≡ none → Going q t bytes budget t 0 r
+starts q t bytes budget y fresh =
     let e : budget - 0 ≡ budget = omega arith in
-    record {
+    subst (Going q t bytes budget t 0) (sym fresh)
+    (record {
       inside = omega arith;
       afford = omega arith;
       nines = omega arith;
       within = record { most = omega arith; joined = omega arith; evicted = omega arith; passed = omega arith; served = omega arith; turned = omega arith; idle = omega arith };
       running = refl;
       ready = y;
-      same = rw e (refl, refl);
-    }
+      same = rw e (from-none (picture t) budget bytes, refl);
+    })
 
 -- a command is counted at most once in each total
 abbrev Once : Outcome → Type 0
@@ -75,14 +76,17 @@ one-within r o b w =
     }
 
 module _ {q : ℕ} {t₀ bytes : List ℕ} {budget : ℕ} {t : List ℕ} {at : ℕ} {ran : Ran} (g : Going q t₀ bytes budget t at ran) where
-  -- what the whole run reports and leaves, where this is its stop
-  halts : (n : ℕ) → Stops (budget - ran .done) (drop at bytes) n
-      → (halted n ran ≡ ranFrom none (picture t₀) budget bytes) × (t ≡ draw (nextAll (picture t₀) (carried budget bytes)))
+  -- the whole run reports this, and leaves the table as it stands
+  abbrev Comes : Ran → Type 0
+  Comes r = (r ≡ reported (picture t₀) budget bytes) × (t ≡ draw (nextAll (picture t₀) (carried budget bytes)))
+
+  -- where this is its stop
+  halts : (n : ℕ) → Stops (budget - ran .done) (drop at bytes) n → Comes (halted n ran)
   halts n k =
       let h = stopped ran (picture t) (budget - ran .done) (drop at bytes) n k in
       (sym (h .0) ∙ g .same .0, ready-drawn (g .ready) ∙ ap draw (sym (h .1) ∙ g .same .1))
 
-  pub all-read : (at < length bytes → ⊥) → (ran ≡ ranFrom none (picture t₀) budget bytes) × (t ≡ draw (nextAll (picture t₀) (carried budget bytes)))
+  pub all-read : (at < length bytes → ⊥) → Comes ran
   all-read n =
       let k = halts 0 (ended (budget - ran .done) (drop at bytes) (omega (arith, length-drop at bytes, g .inside, n))) in
       let e : halted 0 ran ≡ ran = (λ i. record {
@@ -101,7 +105,7 @@ module _ {q : ℕ} {t₀ bytes : List ℕ} {budget : ℕ} {t : List ℕ} {at : �
     some : length (drop at bytes) ≡ 0 → ⊥
     some e = omega (arith, more, e, length-drop at bytes)
 
-    pub budget-spent : ran .done ≡ budget → (halted 1 ran ≡ ranFrom none (picture t₀) budget bytes) × (t ≡ draw (nextAll (picture t₀) (carried budget bytes)))
+    pub budget-spent : ran .done ≡ budget → Comes (halted 1 ran)
     budget-spent e =
         let z : budget - ran .done ≡ 0 = omega (arith, e) in
         halts 1 (rw z (spent (drop at bytes) some))
@@ -112,14 +116,14 @@ module _ {q : ℕ} {t₀ bytes : List ℕ} {budget : ℕ} {t : List ℕ} {at : �
           let e : budget - ran .done ≡ budget - (ran .done + 1) + 1 = omega (arith, left, g .afford) in
           e ∙ add-one (budget - (ran .done + 1))
 
-      pub cut-short : length bytes - at < commandBytes → (halted 7 ran ≡ ranFrom none (picture t₀) budget bytes) × (t ≡ draw (nextAll (picture t₀) (carried budget bytes)))
+      pub cut-short : length bytes - at < commandBytes → Comes (halted 7 ran)
       cut-short h = halts 7 (rw one-left (short (drop at bytes) some (budget - (ran .done + 1)) (omega (arith, h, length-drop at bytes))))
 
       module _ (whole : commandBytes ≤ length bytes - at) {c : Command} (is : c ≡ commandAt (drop at bytes)) where
         nine : commandBytes ≤ length (drop at bytes)
         nine = omega (arith, whole, length-drop at bytes)
 
-        pub no-command : isKnown c ≡ false → (halted 8 ran ≡ ranFrom none (picture t₀) budget bytes) × (t ≡ draw (nextAll (picture t₀) (carried budget bytes)))
+        pub no-command : isKnown c ≡ false → Comes (halted 8 ran)
         no-command e = halts 8 (rw one-left (unknown (drop at bytes) some nine (budget - (ran .done + 1)) (ap isKnown (sym is) ∙ e)))
 
         -- after one more command
@@ -136,7 +140,7 @@ module _ {q : ℕ} {t₀ bytes : List ℕ} {budget : ℕ} {t : List ℕ} {at : �
             subst (λ (n : ℕ). Step n (step (picture t .size) (plain (picture t)) (asCommand d₀)) N) (g .ready .size) (next-step (picture t) v (asCommand d₀)) in
             let n : r .done ≡ ran .done + 1 = ap (λ (x : Ran). x .done) f₀ in
             let k = goes ran (picture t) (budget - (ran .done + 1)) (drop at bytes) v some nine (ap isKnown (sym is) ∙ e) in
-            let h = subst (λ (m : ℕ). Same ran (picture t) m (drop at bytes) (ranFrom none (picture t₀) budget bytes) (nextAll (picture t₀) (carried budget bytes))) one-left (g .same) in
+            let h = subst (λ (m : ℕ). Same ran (picture t) m (drop at bytes) (reported (picture t₀) budget bytes) (nextAll (picture t₀) (carried budget bytes))) one-left (g .same) in
             let pu : picture u ≡ N = drawn-picture p u₀ in
             let bn : budget - r .done ≡ budget - (ran .done + 1) = ap (λ (m : ℕ). budget - m) n in
             let dd : drop (at + commandBytes) bytes ≡ drop commandBytes (drop at bytes) = simp drop-drop in

@@ -12,8 +12,39 @@ use Rattle.rules.specs.Picture.{Picture, plain}
 use Rattle.rules.specs.Sound.{Right}
 use Rattle.rules.proofs.Run.{Stops, next-step, goes-on}
 use Rattle.run.specs.declared.Ran.{Ran}
-use Rattle.run.specs.Tally.{commandAt, isKnown, asCommand, halted, tally}
-use Rattle.run.specs.Runs.{ranFrom}
+use Rattle.run.specs.Tally.{commandAt, isKnown, asCommand, none, halted, tally}
+use Rattle.run.specs.Runs.{outcomesFrom, reported}
+
+-- the report, over what was reported so far
+abbrev pub ranFrom : Ran → Picture → ℕ → List ℕ → Ran
+ranFrom r P b s =
+    let os : List Outcome = outcomesFrom P b s in
+    record {
+      stop = stop b s;
+      done = r .done + length (carried b s);
+      joined = r .joined + total joins os;
+      evicted = r .evicted + total evicts os;
+      passed = r .passed + total passes os;
+      served = r .served + total serves os;
+      turned = r .turned + total turns os;
+      idle = r .idle + total idles os;
+    }
+
+zero-more : (n : ℕ) → 0 + n ≡ n
+zero-more n = omega arith
+
+pub from-none : (P : Picture) (b : ℕ) (s : List ℕ) → ranFrom none P b s ≡ reported P b s
+from-none P b s =
+    let os : List Outcome = outcomesFrom P b s in λ i. record {
+      stop = stop b s;
+      done = zero-more (length (carried b s)) i;
+      joined = zero-more (total joins os) i;
+      evicted = zero-more (total evicts os) i;
+      passed = zero-more (total passes os) i;
+      served = zero-more (total serves os) i;
+      turned = zero-more (total turns os) i;
+      idle = zero-more (total idles os) i;
+    }
 
 -- what a run still reports and draws
 abbrev pub Same : Ran → Picture → ℕ → List ℕ → Ran → Picture → Type 0
@@ -25,18 +56,18 @@ stopped r P b s n k = (
   λ i. record {
     stop = k .number i;
     done = (ap (λ (cs : List Command). r .done + length cs) (k .nothing) ∙ add-zero (r .done)) i;
-    joined = none joins (r .joined) i;
-    evicted = none evicts (r .evicted) i;
-    passed = none passes (r .passed) i;
-    served = none serves (r .served) i;
-    turned = none turns (r .turned) i;
-    idle = none idles (r .idle) i;
+    joined = without joins (r .joined) i;
+    evicted = without evicts (r .evicted) i;
+    passed = without passes (r .passed) i;
+    served = without serves (r .served) i;
+    turned = without turns (r .turned) i;
+    idle = without idles (r .idle) i;
   },
   ap (nextAll P) (k .nothing),
 )
   where
-    none : (f : Outcome → ℕ) (m : ℕ) → m + total f (outcomes (P .size) (plain P) (carried b s)) ≡ m
-    none f m = ap (λ (cs : List Command). m + total f (outcomes (P .size) (plain P) cs)) (k .nothing) ∙ add-zero m
+    without : (f : Outcome → ℕ) (m : ℕ) → m + total f (outcomes (P .size) (plain P) (carried b s)) ≡ m
+    without f m = ap (λ (cs : List Command). m + total f (outcomes (P .size) (plain P) cs)) (k .nothing) ∙ add-zero m
 
 -- it goes on: one more is counted, and the rest is a run from the next picture
 pub goes : (r : Ran) (P : Picture) (b : ℕ) (s : List ℕ) → Right P → (length s ≡ 0 → ⊥) → commandBytes ≤ length s → isKnown (commandAt s) ≡ true

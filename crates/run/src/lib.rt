@@ -11,7 +11,7 @@ ghost use Rattle.rules.specs.Draw.{draw};
 ghost use Rattle.rules.specs.Sound.{picture};
 ghost use Rattle.rules.specs.Ready.{Ready};
 ghost use Rattle.run.specs.Tally.{asCommand, commandAt, isKnown, none, halted, tally, Within, talliedArrive, talliedSlide, talliedServe};
-ghost use Rattle.run.specs.Runs.{ranFrom};
+ghost use Rattle.run.specs.Runs.{reported};
 use steps::Arrived;
 use steps::Served;
 use steps::Slid;
@@ -160,23 +160,11 @@ fn carry_out(t: &mut [u32], q: usize, s: &[u32; 1024], c: Command, ran: Ran) -> 
     tally_serve(ran, steps::serve(t, q, s))
 }
 
-// The report of a run that stops.
-fn halt(mut ran: Ran, stop: u32) -> Ran
-    ensures { λ r. ⌜ r ≡ halted stop ran ⌝ }
+// The report before the first command.
+fn fresh() -> Ran
+    ensures { λ r. ⌜ r ≡ none ⌝ }
 {
-    ran.stop = stop;
-    ran
-}
-
-// Carries out commands until one of the four stops.
-pub fn run(t: &mut [u32], q: usize, s: &[u32; 1024], bytes: &[u8], budget: u64) -> Ran
-    requires { ⌜ Ready q (now t) ⌝ }
-    requires { ⌜ IsSpread (now s) ⌝ }
-    ensures { λ r. ⌜ r ≡ ranFrom none (picture (now (t .entry))) budget (now (bytes .entry)) ⌝ }
-    ensures { λ _. ⌜ now (t .exit) ≡ draw (rule.nextAll (picture (now (t .entry))) (rule.carried budget (now (bytes .entry)))) ⌝ }
-{
-    let mut at: usize = 0;
-    let mut ran = Ran {
+    Ran {
         stop: 0,
         done: 0,
         joined: 0,
@@ -185,7 +173,33 @@ pub fn run(t: &mut [u32], q: usize, s: &[u32; 1024], bytes: &[u8], budget: u64) 
         served: 0,
         turned: 0,
         idle: 0,
-    };
+    }
+}
+
+// The report of a run that stops.
+fn halt(mut ran: Ran, stop: u32) -> Ran
+    ensures { λ r. ⌜ r ≡ halted stop ran ⌝ }
+{
+    ran.stop = stop;
+    ran
+}
+
+// The report of a run that is refused with a number.
+pub fn refused(number: u32) -> Ran
+    ensures { λ r. ⌜ r ≡ halted number none ⌝ }
+{
+    halt(fresh(), number)
+}
+
+// Carries out commands until one of the four stops.
+pub fn run(t: &mut [u32], q: usize, s: &[u32; 1024], bytes: &[u8], budget: u64) -> Ran
+    requires { ⌜ Ready q (now t) ⌝ }
+    requires { ⌜ IsSpread (now s) ⌝ }
+    ensures { λ r. ⌜ r ≡ reported (picture (now (t .entry))) budget (now (bytes .entry)) ⌝ }
+    ensures { λ _. ⌜ now (t .exit) ≡ draw (rule.nextAll (picture (now (t .entry))) (rule.carried budget (now (bytes .entry)))) ⌝ }
+{
+    let mut at: usize = 0;
+    let mut ran = fresh();
     while at < bytes.len() {
         if ran.done == budget {
             return halt(ran, 1);

@@ -1,81 +1,61 @@
+-- Four bytes are a number, since each is below 256. Assumes nothing.
 use lib.Seq.{getD-drop}
 use native.Mathlib.Nat.{add-zero}
 use borrow.Author.Needs.{needs}
 use Rattle.run.proofs.number.Statement.{statement}
 use Rattle.run.proofs.number.Tie as tie
-use Rattle.run.proofs.number.Reads as reads
-use Rattle.run.proofs.number.Lts as lts
-use Rattle.run.proofs.wide.Reads as wide-reads
 
--- src/lib.rt:54:10
 shared-slice-read-wide : tie.Need-shared-slice-read-wide
 shared-slice-read-wide c = search needs
 
--- src/lib.rt:54:5
 wide-requires : tie.Need-wide-requires
 wide-requires c κs = search needs
 
--- src/lib.rt:54:32
 add-wide : tie.Need-add-wide
 add-wide c = search needs
 
--- src/lib.rt:54:30
 shared-slice-read-wide-2 : tie.Need-shared-slice-read-wide-2
 shared-slice-read-wide-2 c = search needs
 
--- src/lib.rt:54:25
 wide-requires-2 : tie.Need-wide-requires-2
 wide-requires-2 c κs = search needs
 
--- src/lib.rt:54:19
 mul-result : tie.Need-mul-result
 mul-result c = search needs
 
--- src/lib.rt:54:5
 add-result : tie.Need-add-result
 add-result c = search needs
 
--- src/lib.rt:54:58
 add-wide-2 : tie.Need-add-wide-2
 add-wide-2 c = search needs
 
--- src/lib.rt:54:56
 shared-slice-read-wide-3 : tie.Need-shared-slice-read-wide-3
 shared-slice-read-wide-3 c = search needs
 
--- src/lib.rt:54:51
 wide-requires-3 : tie.Need-wide-requires-3
 wide-requires-3 c κs = search needs
 
--- src/lib.rt:54:43
 mul-result-2 : tie.Need-mul-result-2
 mul-result-2 c = search needs
 
--- src/lib.rt:54:5
 add-result-2 : tie.Need-add-result-2
 add-result-2 c = search needs
 
--- src/lib.rt:54:87
 add-wide-3 : tie.Need-add-wide-3
 add-wide-3 c = search needs
 
--- src/lib.rt:54:85
 shared-slice-read-wide-4 : tie.Need-shared-slice-read-wide-4
 shared-slice-read-wide-4 c = search needs
 
--- src/lib.rt:54:80
 wide-requires-4 : tie.Need-wide-requires-4
 wide-requires-4 c κs = search needs
 
--- src/lib.rt:54:69
 mul-result-3 : tie.Need-mul-result-3
 mul-result-3 c = search needs
 
--- src/lib.rt:54:5
 add-result-3 : tie.Need-add-result-3
 add-result-3 c = search needs
 
--- src/lib.rt:50:1
 returns : tie.Need-returns
 returns c = let z = c .before .before in
     let y = z .before .before in
