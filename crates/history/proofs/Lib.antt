@@ -1,0 +1,5 @@
+-- The theorems over any history of calls: lent words that begin with a drawing, one call, and then all.
+pub mod Drawn
+pub mod Call
+pub mod History
+pub mod Cases
