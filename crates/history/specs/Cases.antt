@@ -26,7 +26,7 @@ pub data Case : Type 0 where
 
 -- calls that are lent exactly the table
 abbrev pub calls : ℕ → List Asked → List Lent
-calls q as = map (λ a. lent (kind.size q) (a .call)) as
+calls q asked = map (λ a. lent (kind.size q) (a .call)) asked
 
 -- a table of Q places, laid out over zeros
 abbrev pub fresh : ℕ → List ℕ
@@ -35,7 +35,7 @@ fresh q = laidOut q (replicate (kind.size q) 0)
 -- a case is right: lay-out's number is this one; the calls answer and leave this
 abbrev pub Right : Case → Type 0
 Right (layOut q n number) = layOutNumber q n ≡ number
-Right (session q as words) = (replies (calls q as) (fresh q) ≡ map (λ a. a .reply) as) × (tableAfter (calls q as) (fresh q) ≡ words)
+Right (session q asked words) = (replies (calls q asked) (fresh q) ≡ map (λ a. a .reply) asked) × (tableAfter (calls q asked) (fresh q) ≡ words)
 
 abbrev ask : Call → Reply → Asked
 ask c r = record { call = c; reply = r }
