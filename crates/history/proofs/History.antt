@@ -2,7 +2,7 @@
 use mathlib.Core.List.{List, [], _∷_, _++_}
 use mathlib.Core.Path.{_≡_, refl, sym, ap, ap₂, _∙_, subst}
 use Prim.Native.Nat.{ℕ}
-use lib.ListN.{length, drop}
+use lib.ListN.{length, take, drop}
 use Rattle.table.specs.Kind as kind
 use Rattle.rules.specs.History.{Waiting, nobody}
 use Rattle.rules.specs.Picture.{Picture, plain}
@@ -14,7 +14,7 @@ use Rattle.rules.proofs.Settle.{Step}
 use Rattle.rules.proofs.Empty.{empty-right}
 use Rattle.rules.proofs.Steps.{stay}
 use Rattle.layout.proofs.After.{accepted, laid-is}
-use Rattle.history.specs.Calls.{Lent, Reply, replies, tableAfter, plainReplies, plainAfter, pictureNext, pictureAfter}
+use Rattle.history.specs.Calls.{Lent, Reply, reply, replies, tableAfter, plainAnswer, plainReplies, plainAfter, pictureNext, pictureAfter}
 use Rattle.history.proofs.Call.{comes}
 
 -- what calls come to on a slice that begins with the drawing of P, where s waits in a window of q places
@@ -60,6 +60,12 @@ module _ (q : ℕ) (w : List ℕ) (laid : layOutNumber q (length w) ≡ 0) (call
 
   pub the-right : Right (pictureAfter (empty q) calls)
   the-right = all .step .right
+
+  -- the next reply too, whichever call it is
+  pub next-reply : (l : Lent) → reply (l .call) (take (l .words) (tableAfter calls (laidOut q w))) ≡ plainAnswer q (plainAfter q nobody calls) l
+  next-reply l =
+      ap (λ (t : List ℕ). reply (l .call) (take (l .words) t)) the-table ∙ comes (pictureAfter (empty q) calls) the-right (drop (kind.size q) w) l .answers
+      ∙ ap₂ (λ (n : ℕ) (s : Waiting). plainAnswer n s l) the-size the-history
 
 -- two histories with the same picture leave equal words
 pub same-picture : (q : ℕ) (w : List ℕ) → layOutNumber q (length w) ≡ 0 → (calls others : List Lent) → pictureAfter (empty q) calls ≡ pictureAfter (empty q) others

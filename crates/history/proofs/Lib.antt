@@ -2,4 +2,6 @@
 pub mod Drawn
 pub mod Call
 pub mod History
+pub mod Shape
+pub mod Sharing
 pub mod Cases

@@ -69,13 +69,13 @@ abbrev pub cases : List Case
 cases =
     layOut 0 16016 1 ∷ layOut 1001 16032 1 ∷ layOut 1000 16016 0 ∷ layOut 1000 16015 2
     ∷ session 4 (
-      joins 1 10 ∷ joins 1 11 ∷ joins 2 12 ∷ joins 1 13 ∷ lists 2 (1 ∷ 3 ∷ 2 ∷ 1 ∷ 0 ∷ 0 ∷ [])
-      ∷ evicts 3 14 1 13 ∷ lists 3 (1 ∷ 2 ∷ 2 ∷ 1 ∷ 3 ∷ 1 ∷ [])
-      ∷ turnedAway 1 15
-      ∷ evicts 2 16 1 11 ∷ lists 3 (2 ∷ 2 ∷ 3 ∷ 1 ∷ 1 ∷ 1 ∷ [])
-      ∷ ask (sliding 3 17) (slid (slideTells.Passed (asStruct (request 1 10)))) ∷ lists 2 (2 ∷ 2 ∷ 3 ∷ 2 ∷ 0 ∷ 0 ∷ [])
-      ∷ ask serving (served (serveTells.Left (asStruct (request 2 12))))
-      ∷ ask (oldest 3) (told (ticketTells.Ticket 14)) ∷ ask (newest 3) (told (ticketTells.Ticket 17)) ∷ []
+    joins 1 10 ∷ joins 1 11 ∷ joins 2 12 ∷ joins 1 13 ∷ lists 2 (1 ∷ 3 ∷ 2 ∷ 1 ∷ 0 ∷ 0 ∷ [])
+    ∷ evicts 3 14 1 13 ∷ lists 3 (1 ∷ 2 ∷ 2 ∷ 1 ∷ 3 ∷ 1 ∷ [])
+    ∷ turnedAway 1 15
+    ∷ evicts 2 16 1 11 ∷ lists 3 (2 ∷ 2 ∷ 3 ∷ 1 ∷ 1 ∷ 1 ∷ [])
+    ∷ ask (sliding 3 17) (slid (slideTells.Passed (asStruct (request 1 10)))) ∷ lists 2 (2 ∷ 2 ∷ 3 ∷ 2 ∷ 0 ∷ 0 ∷ [])
+    ∷ ask serving (served (serveTells.Left (asStruct (request 2 12))))
+    ∷ ask (oldest 3) (told (ticketTells.Ticket 14)) ∷ ask (newest 3) (told (ticketTells.Ticket 17)) ∷ []
     ) after9
     ∷ session 1 (joins 7 0 ∷ evicts 8 1 7 0 ∷ []) holding8
     ∷ session 1 (joins 7 0 ∷ turnedAway 7 4 ∷ []) holding7
