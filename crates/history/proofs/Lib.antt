@@ -5,3 +5,5 @@ pub mod History
 pub mod Shape
 pub mod Sharing
 pub mod Cases
+pub mod Few
+pub mod Altered
