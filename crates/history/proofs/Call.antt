@@ -1,7 +1,7 @@
 -- One call on a slice that begins with the drawing of a right picture: it answers and steps as the plain history does, and draws the next picture.
-use mathlib.Core.Bool.{Bool, true, false, cond}
+use mathlib.Core.Bool.{Bool, true, false}
 use mathlib.Core.List.{List, _++_, append-assoc}
-use mathlib.Core.Path.{_≡_, refl, sym, ap, ap₂, _∙_}
+use mathlib.Core.Path.{_≡_, refl, ap, ap₂, _∙_}
 use Prim.Native.Nat.{ℕ, _+_, _-_, _<_}
 use native.Mathlib.Omega.{arith}
 use lib.ListN.{length, take, drop, take-append-drop}
@@ -14,7 +14,7 @@ use Rattle.rules.specs.Picture.{Picture, plain}
 use Rattle.rules.specs.Steps as steps
 use Rattle.rules.specs.Draw.{draw}
 use Rattle.rules.specs.Sound.{picture, Right}
-use Rattle.rules.specs.Verdict.{room, verdict, afterwards}
+use Rattle.rules.specs.Verdict.{room, verdict}
 use Rattle.rules.proofs.Settle.{Step}
 use Rattle.rules.proofs.Steps.{stay, arrive-step, slide-step, serve-step}
 use Rattle.steps.specs.Replies.{arrivedReply, slidReply, servedReply}

@@ -1,12 +1,12 @@
 -- Lent words that begin with the drawing of a right picture: no call refuses them, and it finds that picture in them; a part that is too short is refused with 2.
 use mathlib.Core.Bool.{true}
 use mathlib.Core.List.{List, _++_}
-use mathlib.Core.Path.{_≡_, refl, ap, ap₂, _∙_}
+use mathlib.Core.Path.{_≡_, _∙_}
 use Prim.Native.Nat.{ℕ, _≤_, _<_}
 use native.Mathlib.Decide.{decLt}
 use native.Mathlib.Omega.{arith}
-use lib.Dec.{lit<, ltb}
-use lib.ListN.{length, getD, take, drop, length-append, List·getD-append}
+use lib.Dec.{lit<}
+use lib.ListN.{length, getD, take, length-append, List·getD-append}
 use lib.Seq.{take-at, drop-at, length-take-le, getD-take}
 use borrow.Author.Tests.{le-ltb, lt-ltb}
 use Rattle.table.specs.Kind as kind

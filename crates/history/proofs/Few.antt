@@ -1,7 +1,7 @@
 -- How many words each step of the order and of the window alters at most: counted set by set, whatever the regions hold.
 use mathlib.Core.Bool.{Bool, true, false, cond}
 use mathlib.Core.List.{List}
-use mathlib.Core.Path.{_≡_, refl, sym, ap, _∙_, subst}
+use mathlib.Core.Path.{_≡_, refl, sym, _∙_, subst}
 use Prim.Native.Nat.{ℕ, _+_, _-_, _*_, _≤_, _<_}
 use native.Mathlib.Decide.{decLt}
 use native.Mathlib.Omega.{arith}
@@ -9,19 +9,19 @@ use lib.Dec.{eqb, lit<}
 use lib.ListN.{getD, set}
 use borrow.Author.Tests.{eqb-true}
 use Rattle.table.specs.Kind as kind
-use Rattle.table.specs.Regions.{Regions, words, altered, Writes, setHeader, setItem, setClient, setCount, setBucket}
+use Rattle.table.specs.Regions.{Regions, words, altered, setHeader, setItem, setClient, setCount, setBucket}
 use Rattle.table.proofs.Draw.{length-words, set-header, set-item, set-client, set-count, set-bucket, item-past, client-past, at-other}
 use Rattle.table.proofs.Whole.{agree-words}
 use Rattle.table.proofs.Write.{altered-same, altered-set, altered-trans, write-header}
 use Rattle.rules.specs.Spread.{bucket}
 use Rattle.rules.specs.Draw.{before}
-use Rattle.links.specs.Strands.{Region, header, items, clients, put, Strand, theOrder, theWindow, theOwn, linkTo, turnIn, unlinkIn, insertIn, pushIn}
+use Rattle.links.specs.Strands.{header, put, Strand, theOrder, theWindow, theOwn, linkTo, turnIn, unlinkIn, insertIn, pushIn}
 use Rattle.links.specs.Pools.{freeItems, freeClients, takeFrom, freeInto, blanked}
 use Rattle.links.proofs.Strands.{upd-other, item-stands}
 use Rattle.links.proofs.Pools.{free-writes}
-use Rattle.lookup.specs.Book.{enterAt, enterRow, hook, leaveAt, leaveRow, chain, book}
-use Rattle.order.specs.Moves.{leaveGroup, enterGroup, takeOut, after, putIn, raiseAfter, raised, lowerAfter, lowered, takeRow, admitted, clearRow, freeRow, dismissed, oneMore, oneLess}
-use Rattle.window.specs.Steps.{enterItem, joined, endWords, leaveOwn, leaveLists, left}
+use Rattle.lookup.specs.Book.{enterRow, hook, leaveRow, chain, book}
+use Rattle.order.specs.Moves.{leaveGroup, enterGroup, takeOut, after, putIn, raiseAfter, raised, lowerAfter, lowered, takeRow, admitted, freeRow, dismissed}
+use Rattle.window.specs.Steps.{enterItem, joined, leaveOwn, left}
 
 module _ (q : ℕ) where
   -- two drawings differ in k words at most

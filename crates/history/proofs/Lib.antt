@@ -7,3 +7,4 @@ pub mod Sharing
 pub mod Cases
 pub mod Few
 pub mod Altered
+pub mod Bound

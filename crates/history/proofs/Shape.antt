@@ -1,12 +1,11 @@
 -- Demand 3: after a lay-out and any calls, the clients are linked both ways, each once, with exact counts that never fall; a row freed is the next one taken.
-use mathlib.Core.Bool.{Bool, true}
 use mathlib.Core.List.{List, [], _∷_, _++_, map, map-id}
 use mathlib.Core.Path.{_≡_, refl, sym, ap, ap₂, _∙_, subst}
 use Prim.Native.Nat.{ℕ}
 use lib.ListN.{length, getD, take, drop}
 use lib.Seq.{take-at}
 use Rattle.table.specs.Kind as kind
-use Rattle.table.specs.Regions.{Regions, regions, clientWord}
+use Rattle.table.specs.Regions.{regions, clientWord}
 use Rattle.rules.specs.Rows.{headOr, rest, In, NotIn, All, Distinct, Rising}
 use Rattle.rules.specs.Linked as linked
 use Rattle.rules.specs.Linked.{Linked}
@@ -14,7 +13,7 @@ use Rattle.rules.specs.History.{Waiting, nobody, count}
 use Rattle.rules.specs.Picture.{Item, Client, Picture, item, itemRow, clientRow, clientId, itemRows, clientRows, countOf, plain}
 use Rattle.rules.specs.Steps.{empty, withoutItem, admitted, known, join, leave}
 use Rattle.rules.specs.Draw.{draw}
-use Rattle.rules.specs.Sound.{picture, sound, Right}
+use Rattle.rules.specs.Sound.{picture}
 use Rattle.rules.specs.Ready.{Ready}
 use Rattle.rules.specs.Verdict.{layOutNumber, laidOut}
 use Rattle.rules.proofs.Rows.{map-so, in-all, all-both, map-snoc}

@@ -1,6 +1,6 @@
 -- Sharing, over any history of calls: no arrival turns away or evicts a client whose waiting requests times the clients waiting come to less than the window.
 use mathlib.Core.Bool.{Bool, true, false, cond}
-use mathlib.Core.List.{List, [], _∷_, _++_}
+use mathlib.Core.List.{List, [], _++_}
 use mathlib.Core.Path.{_≡_, refl, sym, ap, ap₂, _∙_, subst}
 use Prim.Native.Nat.{ℕ, _*_, _<_}
 use native.Mathlib.Omega.{arith}
@@ -12,13 +12,12 @@ use Rattle.rules.specs.Steps.{empty}
 use Rattle.rules.specs.Draw.{draw}
 use Rattle.rules.specs.Sound.{picture, Right}
 use Rattle.rules.specs.Verdict.{room, layOutNumber, laidOut}
-use Rattle.rules.proofs.Settle.{Step}
-use Rattle.steps.specs.Replies.{asStruct, arrivedReply}
+use Rattle.steps.specs.Replies.{arrivedReply}
 use Rattle.steps.specs.declared.Request.{Request}
 use Rattle.steps.specs.declared.Arrived.the-variants as tells
 use Rattle.limiter.specs.Calls.{arrivedNumbers}
 use Rattle.limiter.proofs.Sharing.{light-not-turned, light-not-evicted}
-use Rattle.history.specs.Calls.{Lent, lent, arriving, Reply, arrived, slid, served, listed, counted, told, reply, tableAfter, short, plainAnswer, plainAfter, pictureAfter}
+use Rattle.history.specs.Calls.{Lent, lent, arriving, Reply, arrived, slid, served, listed, counted, told, reply, tableAfter, short, plainAfter, pictureAfter}
 use Rattle.history.proofs.Drawn.{drawn-accepted, drawn-found}
 use Rattle.history.proofs.History.{the-history, the-size, the-right, next-reply}
 

@@ -1,11 +1,8 @@
 -- A request leaves a ready table: what the order's step and the window's ask, and that the table is then the drawing of the next picture.
-use mathlib.Core.List.{List, [], _∷_, map}
+use mathlib.Core.List.{List, _∷_, map}
 use mathlib.Core.Path.{_≡_, refl, sym, ap, ap₂, _∙_, subst}
-use mathlib.Core.Logic.{inl}
 use Prim.Native.Nat.{ℕ, _+_, _-_, _≤_, _<_}
 use native.Mathlib.Omega.{arith}
-use lib.Dec.{eqb}
-use lib.ListN.{length, getD}
 use borrow.Author.Tests.{eq-eqb, ne-eqb}
 use Rattle.table.specs.Kind as kind
 use Rattle.table.specs.Regions.{Regions, words, regions, itemWord, clientWord, Writes, altered, at}
@@ -14,13 +11,13 @@ use Rattle.table.proofs.Write.{then, draws}
 use Rattle.rules.specs.Rows.{In, Distinct}
 use Rattle.rules.specs.History as history
 use Rattle.rules.specs.Picture.{Item, Picture, itemRow, clientRow, clientId, itemRows, clientRows, countOf, idOf, requestOf, plain}
-use Rattle.rules.specs.Steps.{withoutItem, dropItem, leave}
+use Rattle.rules.specs.Steps.{withoutItem, leave}
 use Rattle.rules.specs.Draw.{draw}
 use Rattle.rules.specs.Sound.{picture, Right, Holds}
 use Rattle.rules.specs.Ready.{Ready}
 use Rattle.rules.specs.Parts.{Queued}
 use Rattle.rules.proofs.Rows.{in-below, not-both}
-use Rattle.rules.proofs.Put.{Put, here, there, put-there, put-map, take-all, take-out, take-distinct}
+use Rattle.rules.proofs.Put.{Put, here, there, put-there, take-all, take-out}
 use Rattle.rules.proofs.Look.{find, look-in}
 use Rattle.rules.proofs.Right.{items-distinct, items-below, clients-below, counts-one}
 use Rattle.rules.proofs.Settle.{Step, count-more}
