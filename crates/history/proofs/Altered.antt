@@ -184,7 +184,7 @@ module _ {q : ℕ} {t : List ℕ} (y : Ready q t) where
   few-by : {k : ℕ} (m : ℕ) {J K : Picture} → J ≡ K → k ≤ m → altered t (draw K) ≤ k → altered t (draw J) ≤ m
   few-by m e l h = subst (λ (Q : Picture). altered t (draw Q) ≤ m) (sym e) (omega (arith, l, h))
 
-  unaltered : altered t (draw now) ≤ 0
+  pub unaltered : altered t (draw now) ≤ 0
   unaltered = subst (λ (l : List ℕ). altered t l ≤ 0) (ready-drawn y) (omega (arith, altered-same t))
 
   -- the newest item of the heaviest client, and the front item

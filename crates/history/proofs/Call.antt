@@ -12,11 +12,13 @@ use Rattle.rules.specs.History as history
 use Rattle.rules.specs.History.{Waiting}
 use Rattle.rules.specs.Picture.{Picture, plain}
 use Rattle.rules.specs.Steps as steps
+use Rattle.rules.specs.Run.{carried, nextAll}
 use Rattle.rules.specs.Draw.{draw}
 use Rattle.rules.specs.Sound.{picture, Right}
 use Rattle.rules.specs.Verdict.{room, verdict}
 use Rattle.rules.proofs.Settle.{Step}
 use Rattle.rules.proofs.Steps.{stay, arrive-step, slide-step, serve-step}
+use Rattle.rules.proofs.Run.{all-step}
 use Rattle.steps.specs.Replies.{arrivedReply, slidReply, servedReply}
 use Rattle.steps.specs.declared.Arrived.the-variants as arriveTells
 use Rattle.steps.specs.declared.Slid.the-variants as slideTells
@@ -24,17 +26,19 @@ use Rattle.steps.specs.declared.Served.the-variants as serveTells
 use Rattle.questions.specs.Replies.{listedReply, listedWords, toldReply}
 use Rattle.questions.specs.declared.Listed.the-variants as listTells
 use Rattle.questions.specs.declared.Told.the-variants as ticketTells
+use Rattle.run.specs.Tally.{none, halted}
+use Rattle.run.specs.Runs.{reported}
 use Rattle.limiter.specs.declared.Counted.the-variants as countTells
 use Rattle.limiter.specs.Lent.{orRefused}
 use Rattle.limiter.specs.Questions.{listedAnswer, listedOut}
-use Rattle.history.specs.Calls.{Call, arriving, sliding, serving, heaviest, lightest, count, oldest, newest, Lent, arrived, slid, served, listed, counted, told, reply, words, sliceAfter, plainReply, refused, plainStep, short, plainAnswer, plainNext, pictureStep, pictureNext}
+use Rattle.history.specs.Calls.{Call, arriving, sliding, serving, running, heaviest, lightest, count, oldest, newest, Lent, arrived, slid, served, ran, listed, counted, told, reply, words, sliceAfter, plainReply, refused, plainStep, short, plainAnswer, plainNext, pictureStep, pictureNext}
 use Rattle.history.proofs.Drawn.{drawn-long, drawn-accepted, drawn-found, drawn-after, short-refused, short-after}
 
 -- words that are not refused are answered by the picture in them; others are refused with their number
 module _ (t : List ℕ) where
-  module _ {P : Picture} (none : verdict t ≡ 0) (found : picture (take (room t) t) ≡ P) where
+  module _ {P : Picture} (zero : verdict t ≡ 0) (found : picture (take (room t) t) ≡ P) where
     given : {A : Type 0} (tells : ℕ → A) (answer : Picture → A) → orRefused tells t (answer (picture (take (room t) t))) ≡ answer P
-    given tells answer = rw none (ap answer found)
+    given tells answer = rw zero (ap answer found)
 
     listing : (which : ℕ → Waiting → List ℕ) (k : ℕ) (out : List ℕ)
         → listed (listedAnswer k (length out) t) (listedOut which k t out) ≡ listed (listedReply k (length out) (plain P)) (listedWords which k (plain P) out)
@@ -45,6 +49,7 @@ module _ (t : List ℕ) where
     answered (arriving id ticket) = ap arrived (given arriveTells.Refused (λ P. arrivedReply (history.choice (P .size) (plain P) id)))
     answered (sliding id ticket) = ap slid (given slideTells.Refused (λ P. slidReply (history.slideLeft (P .size) (plain P))))
     answered serving = ap served (given serveTells.Refused (λ P. servedReply (history.served (plain P))))
+    answered (running bytes budget) = ap ran (given (λ n. halted n none) (λ P. reported P budget bytes))
     answered (heaviest k out) = listing history.heaviest k out
     answered (lightest k out) = listing history.lightest k out
     answered (count id) = ap counted (given countTells.Refused (λ P. countTells.Number (history.countOf (plain P) id)))
@@ -55,6 +60,7 @@ module _ (t : List ℕ) where
   not-answered e (arriving id ticket) = rw e
   not-answered e (sliding id ticket) = rw e
   not-answered e serving = rw e
+  not-answered e (running bytes budget) = rw e
   not-answered e (heaviest k out) = rw e
   not-answered e (lightest k out) = rw e
   not-answered e (count id) = rw e
@@ -66,6 +72,7 @@ call-step : (c : Call) (P : Picture) → Right P → Step (P .size) (plainStep (
 call-step (arriving id ticket) P v = arrive-step P v id ticket
 call-step (sliding id ticket) P v = slide-step P v id ticket
 call-step serving P v = serve-step P v
+call-step (running bytes budget) P v = all-step P v (carried budget bytes)
 call-step (heaviest k out) P v = stay P v
 call-step (lightest k out) P v = stay P v
 call-step (count id) P v = stay P v
@@ -78,6 +85,7 @@ module _ (P : Picture) (v : Right P) where
   after-whole (arriving id ticket) rest = drawn-after P v rest (λ P. steps.arrived P id ticket)
   after-whole (sliding id ticket) rest = drawn-after P v rest (λ P. steps.slid P id ticket)
   after-whole serving rest = drawn-after P v rest steps.served
+  after-whole (running bytes budget) rest = drawn-after P v rest (λ P. nextAll P (carried budget bytes))
   after-whole (heaviest k out) rest = refl
   after-whole (lightest k out) rest = refl
   after-whole (count id) rest = refl
@@ -89,6 +97,7 @@ module _ (P : Picture) (v : Right P) where
   after-short (arriving id ticket) rest n h = short-after P v rest n h (λ P. steps.arrived P id ticket)
   after-short (sliding id ticket) rest n h = short-after P v rest n h (λ P. steps.slid P id ticket)
   after-short serving rest n h = short-after P v rest n h steps.served
+  after-short (running bytes budget) rest n h = short-after P v rest n h (λ P. nextAll P (carried budget bytes))
   after-short (heaviest k out) rest n h = refl
   after-short (lightest k out) rest n h = refl
   after-short (count id) rest n h = refl
@@ -108,8 +117,8 @@ module _ (P : Picture) (v : Right P) (rest : List ℕ) (l : Lent) where
   whole-lent : (m : ℕ) → (take (kind.size (P .size) + m) t ≡ draw P ++ take m rest) × (drop (kind.size (P .size) + m) t ≡ drop m rest)
   whole-lent m = rw (← drawn-long P) (take-append-add (draw P) rest m, drop-append-add (draw P) rest m)
 
-  carried : short (P .size) l ≡ false → Comes P rest l
-  carried e =
+  long-enough : short (P .size) l ≡ false → Comes P rest l
+  long-enough e =
       let m : ℕ = l .words - kind.size (P .size) in
       let n : l .words ≡ kind.size (P .size) + m = omega (arith, ltb-false (l .words) (kind.size (P .size)) e) in
       let (a, b) = whole-lent m in
@@ -135,4 +144,4 @@ module _ (P : Picture) (v : Right P) (rest : List ℕ) (l : Lent) where
     where
       go : (b : Bool) → short (P .size) l ≡ b → Comes P rest l
       go true e = too-short e
-      go false e = carried e
+      go false e = long-enough e

@@ -2,6 +2,7 @@
 pub mod Drawn
 pub mod Call
 pub mod History
+pub mod Run
 pub mod Shape
 pub mod Sharing
 pub mod Cases

@@ -1,30 +1,37 @@
 -- Demand 3: after a lay-out and any calls, the clients are linked both ways, each once, with exact counts that never fall; a row freed is the next one taken.
+use mathlib.Core.Bool.{false}
 use mathlib.Core.List.{List, [], _∷_, _++_, map, map-id}
 use mathlib.Core.Path.{_≡_, refl, sym, ap, ap₂, _∙_, subst}
-use Prim.Native.Nat.{ℕ}
-use lib.ListN.{length, getD, take, drop}
+use Prim.Native.Nat.{ℕ, _≤_}
+use native.Mathlib.Omega.{arith}
+use lib.ListN.{length, getD, take, drop, length-map}
 use lib.Seq.{take-at}
+use borrow.Author.Tests.{lt-leb}
 use Rattle.table.specs.Kind as kind
 use Rattle.table.specs.Regions.{regions, clientWord}
-use Rattle.rules.specs.Rows.{headOr, rest, In, NotIn, All, Distinct, Rising}
+use Rattle.rules.specs.Rows.{headOr, lastOr, rest, In, NotIn, All, Distinct, Rising}
 use Rattle.rules.specs.Linked as linked
 use Rattle.rules.specs.Linked.{Linked}
-use Rattle.rules.specs.History.{Waiting, nobody, count}
-use Rattle.rules.specs.Picture.{Item, Client, Picture, item, itemRow, clientRow, clientId, itemRows, clientRows, countOf, plain}
-use Rattle.rules.specs.Steps.{empty, withoutItem, admitted, known, join, leave}
+use Rattle.rules.specs.History.{Request, Waiting, nobody, count, full, choice, evicted}
+use Rattle.rules.specs.Picture.{Item, Client, Picture, item, itemRow, clientRow, clientId, itemRows, clientRows, countOf, requestOf, plain}
+use Rattle.rules.specs.Steps.{empty, withoutItem, admitted, known, join, leave, newestItem, frontItem, arrived, slid, served}
 use Rattle.rules.specs.Draw.{draw}
-use Rattle.rules.specs.Sound.{picture}
+use Rattle.rules.specs.Sound.{picture, Right, Sound}
 use Rattle.rules.specs.Ready.{Ready}
 use Rattle.rules.specs.Verdict.{layOutNumber, laidOut}
 use Rattle.rules.proofs.Rows.{map-so, in-all, all-both, map-snoc}
 use Rattle.rules.proofs.Put.{all-puts, put-there}
 use Rattle.rules.proofs.Choose.{either-way}
 use Rattle.rules.proofs.Columns.{chain-head}
-use Rattle.rules.proofs.Right.{clients-distinct}
+use Rattle.rules.proofs.Sound.{sound-clauses}
+use Rattle.rules.proofs.Right.{clients-distinct, places}
 use Rattle.rules.proofs.Plain.{clients-plain}
 use Rattle.rules.proofs.Settle.{Step}
 use Rattle.rules.proofs.Moves.{join-new, leave-frees, leave-last}
+use Rattle.rules.proofs.Leaving.{front-step}
 use Rattle.rules.proofs.Ready.{ready-right, ready-holds, drawn-ready, drawn-picture}
+use Rattle.steps.specs.Items.{evicted as heaviestLeft}
+use Rattle.steps.proofs.Choices.{choice-joined, arrived-by, slid-joined, served-front}
 use Rattle.history.specs.Calls.{Lent, tableAfter, plainAfter, pictureAfter}
 use Rattle.history.proofs.Drawn.{drawn-long}
 use Rattle.history.proofs.History.{the-table, the-history, the-size, the-right}
@@ -83,6 +90,10 @@ module _ (q : ℕ) (w : List ℕ) (laid : layOutNumber q (length w) ≡ 0) (call
   waits : plain (picture table) ≡ waiting
   waits = ap plain table-picture ∙ after .plain
 
+  -- the paragraph 'Sound means' holds, clause by clause
+  pub table-sound : Sound table
+  table-sound = sound-clauses table (table-ready .sound)
+
   -- the client links visit the same rows both ways, each once
   pub linked-both-ways : Linked q (linked.order (regions q table)) (clientRows (picture table))
   linked-both-ways =
@@ -136,3 +147,30 @@ module _ (P : Picture) (i : Item) (id ticket : ℕ) where
       let (a, b) = taken-client (leave P i) id ticket new in
       let frees : leave P i .freeClients ≡ i .client ∷ P .freeClients = ap (λ (J : Picture). J .freeClients) (leave-last P i none) in
       (a ∙ rw (leave-frees P i, frees), b ∙ rw frees)
+
+-- so an arrival that evicts stands in the row of the request that left
+pub evicted-row-next : (P : Picture) (id ticket : ℕ) {r : Request} → choice (P .size) (plain P) id ≡ evicted r
+    → itemRows (arrived P id ticket) ≡ itemRows (heaviestLeft P) ++ newestItem (lastOr kind.none (clientRows P)) (item 0 0 0) (P .window) .row ∷ []
+evicted-row-next P id ticket e = ap itemRows (arrived-by P id ticket e) ∙ freed-item-next P _ id ticket .0
+
+-- and after a serve the next arrival, or slide, in the row of the request that was served
+module _ (P : Picture) (v : Right P) (h : 1 ≤ length (P .window)) (id ticket : ℕ) where
+  abbrev front : Item
+  front = frontItem (P .window)
+
+  goes : served P ≡ leave P front
+  goes = served-front P (λ e. omega (arith, e, h))
+
+  has-room : full (leave P front .size) (plain (leave P front)) ≡ false
+  has-room =
+      let J : Picture = leave P front in
+      let one : 1 ≤ length (J .freeItems) = rw (leave-frees P front) (omega arith) in
+      lt-leb (J .size) (length (plain J .window)) (omega (arith, one, places J (front-step P v h .right), length-map (J .window) (requestOf (J .clients))))
+
+  pub served-row-next : (itemRows (arrived (served P) id ticket) ≡ itemRows (served P) ++ front .row ∷ []) × (itemRows (slid (served P) id ticket) ≡ itemRows (served P) ++ front .row ∷ [])
+  served-row-next =
+      let J : Picture = leave P front in
+      rw goes (
+        ap itemRows (arrived-by J id ticket (choice-joined (J .size) (plain J) id has-room)) ∙ freed-item-next P front id ticket .0,
+        ap itemRows (slid-joined J id ticket has-room) ∙ freed-item-next P front id ticket .0,
+      )

@@ -17,7 +17,7 @@ use Rattle.steps.specs.declared.Request.{Request}
 use Rattle.steps.specs.declared.Arrived.the-variants as tells
 use Rattle.limiter.specs.Calls.{arrivedNumbers}
 use Rattle.limiter.proofs.Sharing.{light-not-turned, light-not-evicted}
-use Rattle.history.specs.Calls.{Lent, lent, arriving, Reply, arrived, slid, served, listed, counted, told, reply, tableAfter, short, plainAfter, pictureAfter}
+use Rattle.history.specs.Calls.{Lent, lent, arriving, Reply, arrived, slid, served, ran, listed, counted, told, reply, tableAfter, short, plainAfter, pictureAfter}
 use Rattle.history.proofs.Drawn.{drawn-accepted, drawn-found}
 use Rattle.history.proofs.History.{the-history, the-size, the-right, next-reply}
 
@@ -45,6 +45,7 @@ abbrev numbers : Reply → List ℕ
 numbers (arrived a) = arrivedNumbers a
 numbers (slid a) = []
 numbers (served a) = []
+numbers (ran a) = []
 numbers (listed a out) = []
 numbers (counted a) = []
 numbers (told a) = []

@@ -9,6 +9,9 @@ use Rattle.rules.specs.History as history
 use Rattle.rules.specs.History.{Waiting, request}
 use Rattle.rules.specs.Picture.{Picture}
 use Rattle.rules.specs.Steps as steps
+use Rattle.rules.specs.Commands as commands
+use Rattle.rules.specs.Commands.{Command}
+use Rattle.rules.specs.Run.{carried, after, nextAll}
 use Rattle.rules.specs.Verdict.{afterwards}
 use Rattle.steps.specs.Replies.{arrivedReply, slidReply, servedReply}
 use Rattle.steps.specs.declared.Arrived.{Arrived}
@@ -22,16 +25,21 @@ use Rattle.questions.specs.declared.Listed.{Listed}
 use Rattle.questions.specs.declared.Listed.the-variants as listTells
 use Rattle.questions.specs.declared.Told.{Told}
 use Rattle.questions.specs.declared.Told.the-variants as ticketTells
+use Rattle.run.specs.declared.Ran.{Ran}
+use Rattle.run.specs.Tally.{none, halted}
+use Rattle.run.specs.Runs.{reportOf}
 use Rattle.limiter.specs.declared.Counted.{Counted}
 use Rattle.limiter.specs.declared.Counted.the-variants as countTells
 use Rattle.limiter.specs.Questions.{listedAnswer, listedOut, countedAnswer, toldAnswer}
 use Rattle.limiter.specs.Calls.{arriveAnswer, slideAnswer, serveAnswer}
+use Rattle.limiter.specs.Runs.{runAnswer, runWords}
 
--- a call: arrive and slide of an id and a ticket, serve, the listings of k clients into an output that held these words, and the questions on an id
+-- a call: arrive and slide of an id and a ticket, serve, a run of bytes with a budget, the listings of k clients into an output that held these words, and the questions on an id
 pub data Call : Type 0 where
   arriving : ℕ → ℕ → Call
   sliding : ℕ → ℕ → Call
   serving : Call
+  running : List ℕ → ℕ → Call
   heaviest : ℕ → List ℕ → Call
   lightest : ℕ → List ℕ → Call
   count : ℕ → Call
@@ -51,6 +59,7 @@ pub data Reply : Type 0 where
   arrived : Arrived → Reply
   slid : Slid → Reply
   served : Served → Reply
+  ran : Ran → Reply
   listed : Listed → List ℕ → Reply
   counted : Counted → Reply
   told : Told → Reply
@@ -60,6 +69,7 @@ abbrev pub reply : Call → List ℕ → Reply
 reply (arriving id ticket) t = arrived (arriveAnswer id t)
 reply (sliding id ticket) t = slid (slideAnswer t)
 reply serving t = served (serveAnswer t)
+reply (running bytes budget) t = ran (runAnswer budget bytes t)
 reply (heaviest k out) t = listed (listedAnswer k (length out) t) (listedOut history.heaviest k t out)
 reply (lightest k out) t = listed (listedAnswer k (length out) t) (listedOut history.lightest k t out)
 reply (count id) t = counted (countedAnswer id t)
@@ -71,6 +81,7 @@ abbrev pub words : Call → List ℕ → List ℕ
 words (arriving id ticket) t = afterwards (λ P. steps.arrived P id ticket) t
 words (sliding id ticket) t = afterwards (λ P. steps.slid P id ticket) t
 words serving t = afterwards steps.served t
+words (running bytes budget) t = runWords budget bytes t
 words (heaviest k out) t = t
 words (lightest k out) t = t
 words (count id) t = t
@@ -95,17 +106,19 @@ abbrev pub plainReply : ℕ → Waiting → Call → Reply
 plainReply q s (arriving id ticket) = arrived (arrivedReply (history.choice q s id))
 plainReply q s (sliding id ticket) = slid (slidReply (history.slideLeft q s))
 plainReply q s serving = served (servedReply (history.served s))
+plainReply q s (running bytes budget) = ran (reportOf q s budget bytes)
 plainReply q s (heaviest k out) = listed (listedReply k (length out) s) (listedWords history.heaviest k s out)
 plainReply q s (lightest k out) = listed (listedReply k (length out) s) (listedWords history.lightest k s out)
 plainReply q s (count id) = counted (countTells.Number (history.countOf s id))
 plainReply q s (oldest id) = told (toldReply history.oldestTicket s id)
 plainReply q s (newest id) = told (toldReply history.newestTicket s id)
 
--- what a call answers that is refused with the number n: an output stays as it was
+-- what a call answers that is refused with the number n: an output stays as it was, and of a run nothing is carried out
 abbrev pub refused : ℕ → Call → Reply
 refused n (arriving id ticket) = arrived (arriveTells.Refused n)
 refused n (sliding id ticket) = slid (slideTells.Refused n)
 refused n serving = served (serveTells.Refused n)
+refused n (running bytes budget) = ran (halted n none)
 refused n (heaviest k out) = listed (listTells.Refused n) out
 refused n (lightest k out) = listed (listTells.Refused n) out
 refused n (count id) = counted (countTells.Refused n)
@@ -117,6 +130,7 @@ abbrev pub plainStep : ℕ → Waiting → Call → Waiting
 plainStep q s (arriving id ticket) = history.arrive q s (request id ticket)
 plainStep q s (sliding id ticket) = history.slide q s (request id ticket)
 plainStep q s serving = history.serve s
+plainStep q s (running bytes budget) = after q s (carried budget bytes)
 plainStep q s (heaviest k out) = s
 plainStep q s (lightest k out) = s
 plainStep q s (count id) = s
@@ -148,6 +162,7 @@ abbrev pub pictureStep : Call → Picture → Picture
 pictureStep (arriving id ticket) P = steps.arrived P id ticket
 pictureStep (sliding id ticket) P = steps.slid P id ticket
 pictureStep serving P = steps.served P
+pictureStep (running bytes budget) P = nextAll P (carried budget bytes)
 pictureStep (heaviest k out) P = P
 pictureStep (lightest k out) P = P
 pictureStep (count id) P = P
@@ -160,3 +175,25 @@ pictureNext P l = cond (short (P .size) l) P (pictureStep (l .call) P)
 abbrev pub pictureAfter : Picture → List Lent → Picture
 pictureAfter P [] = P
 pictureAfter P (l ∷ ls) = pictureAfter (pictureNext P l) ls
+
+-- commands as single calls, each lent n words
+abbrev pub single : Command → Call
+single (commands.arriving r) = arriving (r .id) (r .ticket)
+single (commands.sliding r) = sliding (r .id) (r .ticket)
+single commands.serving = serving
+
+abbrev pub singles : ℕ → List Command → List Lent
+singles n [] = []
+singles n (c ∷ cs) = lent n (single c) ∷ singles n cs
+
+-- how many arrivals, slides and serves a call carries out
+abbrev pub carriedOut : Call → ℕ
+carriedOut (arriving id ticket) = 1
+carriedOut (sliding id ticket) = 1
+carriedOut serving = 1
+carriedOut (running bytes budget) = length (carried budget bytes)
+carriedOut (heaviest k out) = 0
+carriedOut (lightest k out) = 0
+carriedOut (count id) = 0
+carriedOut (oldest id) = 0
+carriedOut (newest id) = 0

@@ -64,11 +64,9 @@ holding8 = 1212940289 ∷ 1 ∷ 1 ∷ 1 ∷ 0 ∷ 0 ∷ 0 ∷ 0 ∷ 4294967295 �
 abbrev holding7 : List ℕ
 holding7 = 1212940289 ∷ 1 ∷ 1 ∷ 1 ∷ 0 ∷ 0 ∷ 0 ∷ 0 ∷ 4294967295 ∷ 4294967295 ∷ 0 ∷ 0 ∷ 0 ∷ 0 ∷ 0 ∷ 0 ∷ 0 ∷ 0 ∷ 4294967295 ∷ 4294967295 ∷ 4294967295 ∷ 4294967295 ∷ 7 ∷ 1 ∷ 4294967295 ∷ 4294967295 ∷ 0 ∷ 0 ∷ 4294967295 ∷ 0 ∷ 0 ∷ 0 ∷ []
 
--- the table of cases
-abbrev pub cases : List Case
-cases =
-    layOut 0 16016 1 ∷ layOut 1001 16032 1 ∷ layOut 1000 16016 0 ∷ layOut 1000 16015 2
-    ∷ session 4 (
+-- the session's nine steps, with a listing after steps 4, 5, 7 and 8, and the oldest and newest of client 3 after step 9
+abbrev nineSteps : List Asked
+nineSteps =
     joins 1 10 ∷ joins 1 11 ∷ joins 2 12 ∷ joins 1 13 ∷ lists 2 (1 ∷ 3 ∷ 2 ∷ 1 ∷ 0 ∷ 0 ∷ [])
     ∷ evicts 3 14 1 13 ∷ lists 3 (1 ∷ 2 ∷ 2 ∷ 1 ∷ 3 ∷ 1 ∷ [])
     ∷ turnedAway 1 15
@@ -76,7 +74,12 @@ cases =
     ∷ ask (sliding 3 17) (slid (slideTells.Passed (asStruct (request 1 10)))) ∷ lists 2 (2 ∷ 2 ∷ 3 ∷ 2 ∷ 0 ∷ 0 ∷ [])
     ∷ ask serving (served (serveTells.Left (asStruct (request 2 12))))
     ∷ ask (oldest 3) (told (ticketTells.Ticket 14)) ∷ ask (newest 3) (told (ticketTells.Ticket 17)) ∷ []
-    ) after9
+
+-- the table of cases
+abbrev pub cases : List Case
+cases =
+    layOut 0 16016 1 ∷ layOut 1001 16032 1 ∷ layOut 1000 16016 0 ∷ layOut 1000 16015 2
+    ∷ session 4 nineSteps after9
     ∷ session 1 (joins 7 0 ∷ evicts 8 1 7 0 ∷ []) holding8
     ∷ session 1 (joins 7 0 ∷ turnedAway 7 4 ∷ []) holding7
     ∷ []
