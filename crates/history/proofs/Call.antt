@@ -37,7 +37,7 @@ use Rattle.history.proofs.Drawn.{drawn-long, drawn-accepted, drawn-foun
 -- words that are not refused are answered by the picture in them; others are refused with their number
 module _ (t : List ℕ) where
   module _ {P : Picture} (zero : verdict t ≡ 0) (found : picture (take (room t) t) ≡ P) where
-    given : {A : Type 0} (tells : ℕ → A) (answer : Picture → A) → orRefused tells t (answer (picture (take (room t) t))) ≡ answer P
+    pub given : {A : Type 0} (tells : ℕ → A) (answer : Picture → A) → orRefused tells t (answer (picture (take (room t) t))) ≡ answer P
     given tells answer = rw zero (ap answer found)
 
     listing : (which : ℕ → Waiting → List ℕ) (k : ℕ) (out : List ℕ)

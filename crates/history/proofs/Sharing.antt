@@ -5,20 +5,22 @@ use mathlib.Core.Path.{_≡_, refl, sym, ap, ap₂, _∙_, subst}
 use Prim.Native.Nat.{ℕ, _*_, _<_}
 use native.Mathlib.Omega.{arith}
 use lib.ListN.{length, getD, take}
-use Rattle.rules.specs.History as history
-use Rattle.rules.specs.History.{Waiting, Choice, joined, evicted, turned, nobody, count, choice}
+use Rattle.rules.specs.History.{Waiting, nobody, count, choice}
 use Rattle.rules.specs.Picture.{Picture, plain}
 use Rattle.rules.specs.Steps.{empty}
 use Rattle.rules.specs.Draw.{draw}
-use Rattle.rules.specs.Sound.{picture, Right}
-use Rattle.rules.specs.Verdict.{room, layOutNumber, laidOut}
+use Rattle.rules.specs.Sound.{Right}
+use Rattle.rules.specs.Verdict.{layOutNumber, laidOut}
 use Rattle.steps.specs.Replies.{arrivedReply}
 use Rattle.steps.specs.declared.Request.{Request}
+use Rattle.steps.specs.declared.Arrived.{Arrived}
 use Rattle.steps.specs.declared.Arrived.the-variants as tells
-use Rattle.limiter.specs.Calls.{arrivedNumbers}
-use Rattle.limiter.proofs.Sharing.{light-not-turned, light-not-evicted}
+use Rattle.limiter.specs.Lent.{waitingIn}
+use Rattle.limiter.specs.Calls.{placesIn, arriveAnswer, arrivedNumbers}
+use Rattle.limiter.proofs.Sharing.{reply-not-turned, reply-not-evicted}
 use Rattle.history.specs.Calls.{Lent, lent, arriving, Reply, arrived, slid, served, ran, listed, counted, told, reply, tableAfter, short, plainAfter, pictureAfter}
 use Rattle.history.proofs.Drawn.{drawn-accepted, drawn-found}
+use Rattle.history.proofs.Call.{given}
 use Rattle.history.proofs.History.{the-history, the-size, the-right, next-reply}
 
 -- on a right picture, whose drawing is a table that no call refuses
@@ -26,42 +28,32 @@ module _ (P : Picture) (v : Right P) (i : ℕ) (light : count i (plain P .window
   abbrev t : List ℕ
   t = draw P ++ []
 
-  shows : picture (take (room t) t) ≡ P
-  shows = drawn-found P v []
+  promised : (j : ℕ) → arrivedReply (choice (P .size) (plain P) j) ≡ arriveAnswer j t
+  promised j = sym (given t (drawn-accepted P v []) (drawn-found P v []) tells.Refused (λ X. arrivedReply (choice (X .size) (plain X) j)))
 
-  light-there : count i (plain (picture (take (room t) t)) .window) * length (plain (picture (take (room t) t)) .order) < picture (take (room t) t) .size
-  light-there = subst (λ (X : Picture). count i (plain X .window) * length (plain X .order) < X .size) (sym shows) light
+  light-there : count i (waitingIn t .window) * length (waitingIn t .order) < placesIn t
+  light-there = subst (λ (X : Picture). count i (plain X .window) * length (plain X .order) < X .size) (sym (drawn-found P v [])) light
 
-  shown-turned : choice (P .size) (plain P) i ≡ turned → ⊥
-  shown-turned e =
-      light-not-turned t i (sym (drawn-accepted P v [])) light-there (ap (λ (X : Picture). choice (X .size) (plain X) i) shows ∙ e)
+  shown-turned : arrivedReply (choice (P .size) (plain P) i) ≡ tells.Turned → ⊥
+  shown-turned = reply-not-turned t i (sym (drawn-accepted P v [])) light-there (promised i)
 
-  shown-evicted : (j : ℕ) (r : history.Request) → choice (P .size) (plain P) j ≡ evicted r → r .id ≡ i → ⊥
-  shown-evicted j r e =
-      light-not-evicted t i (sym (drawn-accepted P v [])) light-there j r (ap (λ (X : Picture). choice (X .size) (plain X) j) shows ∙ e)
+  shown-evicted : (j : ℕ) (r : Request) → arrivedReply (choice (P .size) (plain P) j) ≡ tells.Evicted r → r .id ≡ i → ⊥
+  shown-evicted j r = reply-not-evicted t i (sym (drawn-accepted P v [])) light-there j r (promised j)
 
--- document 01's numbers of an arrive's reply
-abbrev numbers : Reply → List ℕ
-numbers (arrived a) = arrivedNumbers a
-numbers (slid a) = []
-numbers (served a) = []
-numbers (ran a) = []
-numbers (listed a out) = []
-numbers (counted a) = []
-numbers (told a) = []
+-- a reply that is no refusal is the choice's, not that of a call that is lent too few words
+abbrev arriveOf : Reply → Arrived
+arriveOf (arrived a) = a
+arriveOf (slid a) = tells.Joined
+arriveOf (served a) = tells.Joined
+arriveOf (ran a) = tells.Joined
+arriveOf (listed a out) = tells.Joined
+arriveOf (counted a) = tells.Joined
+arriveOf (told a) = tells.Joined
 
--- a choice by its reply
-was-turned : (b : Bool) (c : Choice) → cond b (arrived (tells.Refused 2)) (arrived (arrivedReply c)) ≡ arrived tells.Turned → c ≡ turned
-was-turned true c e = let z : _≡_ {A = ℕ} 0 3 = ap (λ (r : Reply). getD (numbers r) 1 0) e in absurd (omega (arith, z))
-was-turned false joined e = let z : _≡_ {A = ℕ} 1 3 = ap (λ (r : Reply). getD (numbers r) 1 0) e in absurd (omega (arith, z))
-was-turned false (evicted r) e = let z : _≡_ {A = ℕ} 2 3 = ap (λ (r : Reply). getD (numbers r) 1 0) e in absurd (omega (arith, z))
-was-turned false turned e = refl
-
-was-evicted : (b : Bool) (c : Choice) (x : Request) → cond b (arrived (tells.Refused 2)) (arrived (arrivedReply c)) ≡ arrived (tells.Evicted x) → (r : history.Request) × ((c ≡ evicted r) × (r .id ≡ x .id))
-was-evicted true c x e = let z : _≡_ {A = ℕ} 0 2 = ap (λ (r : Reply). getD (numbers r) 1 0) e in absurd (omega (arith, z))
-was-evicted false joined x e = let z : _≡_ {A = ℕ} 1 2 = ap (λ (r : Reply). getD (numbers r) 1 0) e in absurd (omega (arith, z))
-was-evicted false (evicted r) x e = (r, (refl, ap (λ (r : Reply). getD (numbers r) 2 0) e))
-was-evicted false turned x e = let z : _≡_ {A = ℕ} 3 2 = ap (λ (r : Reply). getD (numbers r) 1 0) e in absurd (omega (arith, z))
+chosen : (b : Bool) (a r : Arrived) → getD (arrivedNumbers r) 0 0 ≡ 0 → cond b (arrived (tells.Refused 2)) (arrived a) ≡ arrived r → a ≡ r
+chosen true a r z e =
+    let two : _≡_ {A = ℕ} 2 0 = ap (λ (x : Reply). getD (arrivedNumbers (arriveOf x)) 0 0) e ∙ z in absurd (omega (arith, two))
+chosen false a r z e = ap arriveOf e
 
 -- after a lay-out and any calls, of a client i that is light by the plain history, and with any number of words lent
 module _ (q : ℕ) (w : List ℕ) (laid : layOutNumber q (length w) ≡ 0) (calls : List Lent) (i : ℕ)
@@ -74,18 +66,17 @@ module _ (q : ℕ) (w : List ℕ) (laid : layOutNumber q (length w) ≡ 0) (call
       subst (λ (s : Waiting). count i (s .window) * length (s .order) < P .size) (sym (the-history q w laid calls))
       (subst (λ (n : ℕ). count i (plainAfter q nobody calls .window) * length (plainAfter q nobody calls .order) < n) (sym (the-size q w laid calls)) light)
 
-  is-choice : (j : ℕ) → choice (P .size) (plain P) j ≡ choice q (plainAfter q nobody calls) j
-  is-choice j = ap₂ (λ (n : ℕ) (s : Waiting). choice n s j) (the-size q w laid calls) (the-history q w laid calls)
+  is-choice : (j : ℕ) → arrivedReply (choice (P .size) (plain P) j) ≡ arrivedReply (choice q (plainAfter q nobody calls) j)
+  is-choice j = ap₂ (λ (n : ℕ) (s : Waiting). arrivedReply (choice n s j)) (the-size q w laid calls) (the-history q w laid calls)
 
   -- it is not turned away
   pub never-turned-away : (n ticket : ℕ) → reply (arriving i ticket) (take n (tableAfter calls (laidOut q w))) ≡ arrived tells.Turned → ⊥
   never-turned-away n ticket e =
       let l = lent n (arriving i ticket) in
-      shown-turned P (the-right q w laid calls) i light-shown (is-choice i ∙ was-turned (short q l) _ (sym (next-reply q w laid calls l) ∙ e))
+      shown-turned P (the-right q w laid calls) i light-shown (is-choice i ∙ chosen (short q l) _ tells.Turned refl (sym (next-reply q w laid calls l) ∙ e))
 
   -- and whoever arrives, none of its requests is evicted
   pub never-evicted : (j n ticket : ℕ) (r : Request) → reply (arriving j ticket) (take n (tableAfter calls (laidOut q w))) ≡ arrived (tells.Evicted r) → r .id ≡ i → ⊥
-  never-evicted j n ticket r e is =
+  never-evicted j n ticket r e =
       let l = lent n (arriving j ticket) in
-      let (x, (f, g)) = was-evicted (short q l) _ r (sym (next-reply q w laid calls l) ∙ e) in
-      shown-evicted P (the-right q w laid calls) i light-shown j x (is-choice j ∙ f) (g ∙ is)
+      shown-evicted P (the-right q w laid calls) i light-shown j r (is-choice j ∙ chosen (short q l) _ (tells.Evicted r) refl (sym (next-reply q w laid calls l) ∙ e))
