@@ -20,7 +20,7 @@ use Rattle.rules.specs.Verdict.{verdict, layOutNumber, laidOut}
 use Rattle.rules.proofs.Empty.{empty-sound, empty-picture, empty-plain}
 
 -- what number 0 says of Q and of the words lent
-accepted : (q n : ℕ) → layOutNumber q n ≡ 0 → (kind.inRange q ≡ true) × (kind.size q ≤ n)
+pub accepted : (q n : ℕ) → layOutNumber q n ≡ 0 → (kind.inRange q ≡ true) × (kind.size q ≤ n)
 accepted q n e = go (kind.inRange q) refl (ltb n (kind.size q)) refl e
   where
     go : (a : Bool) → kind.inRange q ≡ a → (b : Bool) → ltb n (kind.size q) ≡ b → _≡_ {A = ℕ} (cond a (cond b 2 0) 1) 0 → (kind.inRange q ≡ true) × (kind.size q ≤ n)
@@ -29,7 +29,7 @@ accepted q n e = go (kind.inRange q) refl (ltb n (kind.size q)) refl e
     go false f b g h = absurd (omega arith)
 
 module _ (q : ℕ) (t : List ℕ) (e : layOutNumber q (length t) ≡ 0) where
-  laid-is : laidOut q t ≡ draw (empty q) ++ drop (kind.size q) t
+  pub laid-is : laidOut q t ≡ draw (empty q) ++ drop (kind.size q) t
   unfolding laidOut
   laid-is = rw e
 
