@@ -18,8 +18,6 @@ use Rattle.rules.proofs.Plain.{count-plain}
 use Rattle.rules.proofs.Ready.{ready-right, ready-holds}
 use Rattle.lookup.specs.Book as book
 use Rattle.lookup.specs.Book.{Found}
-use Rattle.lookup.specs.View.{Keeps}
-use Rattle.lookup.proofs.Ready.{ready-kept}
 use Rattle.questions.specs.Replies.{toldReply, ticketAt}
 use Rattle.questions.specs.declared.Told.the-variants.{Ticket, Refused}
 use Rattle.questions.proofs.Ends.{End, oldestEnd, newestEnd}
@@ -57,10 +55,7 @@ module _ {q : ℕ} {t : List ℕ} (y : Ready q t) (c : ℕ) (i : In c (clientRow
       ∙ sym (end-ticket e (plain (picture t)) (idOf (picture t .clients) c))
 
 -- the lookup answered row r to the id x
-module _ {q x r : ℕ} {t : List ℕ} (y : Ready q t) (f : (cs : List ℕ) (C : ℕ → List ℕ) → Keeps q t cs C → Found (book.idOf q t) cs x r) where
-  found : Found (book.idOf q t) (clientRows (picture t)) x r
-  found = f _ _ (ready-kept y)
-
+module _ {q x r : ℕ} {t : List ℕ} (y : Ready q t) (found : Found (book.idOf q t) (clientRows (picture t)) x r) where
   module _ (none : r ≡ kind.none) where
     pub nobody-counts : 0 ≡ history.countOf (plain (picture t)) x
     nobody-counts = sym (count-absent (picture t .clients) x (found-nobody y found none) (picture t .window) (ready-right y .owners))

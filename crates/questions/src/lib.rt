@@ -3,16 +3,17 @@
 ghost use mathlib.Core.Bool.{true};
 ghost use mathlib.Core.Path.{_≡_};
 ghost use mathlib.Core.List.{_++_};
-ghost use Prim.Native.Nat.{_*_, _≤_, _<_, min};
+ghost use Prim.Native.Nat.{ℕ, _*_, _≤_, _<_, min};
 ghost use lib.ListN.{length, drop};
 ghost use Rattle.table.specs.Kind as kind;
 ghost use Rattle.table.specs.Regions.{Sized};
 ghost use Rattle.rules.specs.Rows.{Below};
 ghost use Rattle.rules.specs.Spread.{IsSpread};
 ghost use Rattle.rules.specs.History as history;
-ghost use Rattle.rules.specs.Picture.{plain};
+ghost use Rattle.rules.specs.Picture.{clientRows, plain};
 ghost use Rattle.rules.specs.Sound.{picture};
 ghost use Rattle.rules.specs.Ready.{Ready};
+ghost use Rattle.lookup.specs.Book.{idOf, Found};
 ghost use Rattle.questions.specs.Ends.{orderEnd, onward, ownEnd};
 ghost use Rattle.questions.specs.Walk.{clientsFrom, pairsFrom};
 ghost use Rattle.questions.specs.Replies.{listedReply, listedWords, listingFrom, toldReply, ticketAt};
@@ -90,17 +91,25 @@ pub fn lightest(t: &[u32], q: usize, k: usize, out: &mut [u32]) -> Listed
     listing(t, q, k, LinkedTable::LIGHTEST_AT, LinkedTable::HEAVIER, out)
 }
 
+// How many requests wait of the client whose row the lookup gave: 0 where it gave none.
+pub fn count_in(t: &[u32], q: usize, r: u32) -> u32
+    requires { ⌜ Ready q (now t) ⌝ }
+    requires { ⌜ ((r ≡ kind.none → ⊥) → r < q) ⌝ }
+    ensures { λ n. ⌜ ((id : ℕ) → Found (idOf q (now (t .entry))) (clientRows (picture (now (t .entry)))) id r → n ≡ history.countOf (plain (picture (now (t .entry)))) id) ⌝ }
+{
+    if r == LinkedTable::NONE {
+        return 0;
+    }
+    table::client(t, q, r, LinkedTable::WAITING)
+}
+
 // How many requests of that client wait: 0 for an absent one.
 pub fn count(t: &[u32], q: usize, s: &[u32; 1024], id: u32) -> u32
     requires { ⌜ Ready q (now t) ⌝ }
     requires { ⌜ IsSpread (now s) ⌝ }
     ensures { λ r. ⌜ r ≡ history.countOf (plain (picture (now (t .entry)))) id ⌝ }
 {
-    let r = lookup::find(t, q, s, id);
-    if r == LinkedTable::NONE {
-        return 0;
-    }
-    table::client(t, q, r, LinkedTable::WAITING)
+    count_in(t, q, lookup::find(t, q, s, id))
 }
 
 // The ticket at that end of the client's own requests, whose row the client word `end` holds.

@@ -18,6 +18,7 @@ pub mod Plain
 pub mod Settle
 pub mod Moves
 pub mod Leaving
+pub mod Staying
 pub mod Steps
 pub mod Run
 pub mod Moved

@@ -143,6 +143,9 @@ module _ {q : ℕ} {t : List ℕ} (y : Ready q t) (h : 1 ≤ length (picture t .
     pub evicted-ready : a ≡ draw (items.evicted (picture t)) → Ready q a × (1 ≤ length (picture a .freeItems))
     evicted-ready e = then-ready heaviest-item y gone e
 
+    pub evicted-picture : a ≡ draw (items.evicted (picture t)) → picture a ≡ items.evicted (picture t)
+    evicted-picture e = drawn-picture gone e
+
     pub evicted-joined : {u : List ℕ} (id ticket : ℕ) → a ≡ draw (items.evicted (picture t)) → altered t a ≤ 24 → u ≡ draw (join (picture a) id ticket) → altered a u ≤ 24
         → (u ≡ draw (join (items.evicted (picture t)) id ticket)) × (altered t u ≤ 48)
     evicted-joined id ticket e f d g = then-joined heaviest-item y gone e id ticket 24 24 f d g

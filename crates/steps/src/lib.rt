@@ -70,6 +70,22 @@ fn join_new(t: &mut [u32], q: usize, s: &[u32; 1024], id: u32, ticket: u32)
     window::join(t, q, c, ticket, LinkedTable::NONE);
 }
 
+// A request joins, c being the row that the lookup gives for its client.
+fn join_in(t: &mut [u32], q: usize, s: &[u32; 1024], c: u32, id: u32, ticket: u32)
+    requires { ⌜ Ready q (now t) ⌝ }
+    requires { ⌜ IsSpread (now s) ⌝ }
+    requires { ⌜ Found (idOf q (now t)) (clientRows (picture (now t))) id c ⌝ }
+    requires { ⌜ 1 ≤ length (picture (now t) .freeItems) ⌝ }
+    ensures { λ _. ⌜ now (t .exit) ≡ draw (steps.join (picture (now (t .entry))) id ticket) ⌝ }
+    ensures { λ _. ⌜ altered (now (t .entry)) (now (t .exit)) ≤ 24 ⌝ }
+{
+    if c == LinkedTable::NONE {
+        join_new(t, q, s, id, ticket);
+    } else {
+        join_known(t, q, c, id, ticket);
+    }
+}
+
 // A request joins.
 fn join(t: &mut [u32], q: usize, s: &[u32; 1024], id: u32, ticket: u32)
     requires { ⌜ Ready q (now t) ⌝ }
@@ -79,11 +95,7 @@ fn join(t: &mut [u32], q: usize, s: &[u32; 1024], id: u32, ticket: u32)
     ensures { λ _. ⌜ altered (now (t .entry)) (now (t .exit)) ≤ 24 ⌝ }
 {
     let c = lookup::find(t, q, s, id);
-    if c == LinkedTable::NONE {
-        join_new(t, q, s, id, ticket);
-    } else {
-        join_known(t, q, c, id, ticket);
-    }
+    join_in(t, q, s, c, id, ticket);
 }
 
 // The only request of client c, in item row r, leaves, and with it the client.
@@ -189,11 +201,13 @@ pub fn arrive(t: &mut [u32], q: usize, s: &[u32; 1024], id: u32, ticket: u32) ->
         join(t, q, s, id, ticket);
         return Arrived::Joined;
     }
-    if questions::count(t, q, s, id) == largest_count(t, q) {
+    let c = lookup::find(t, q, s, id);
+    if questions::count_in(t, q, c) == largest_count(t, q) {
         return Arrived::Turned;
     }
+    // the client that loses a request is another one, so the row found is still right
     let left = evict(t, q, s);
-    join(t, q, s, id, ticket);
+    join_in(t, q, s, c, id, ticket);
     Arrived::Evicted(left)
 }
 
