@@ -1,164 +1,62 @@
 // Damage to the free rows and their chains.
-use crate::judge::judge;
+use crate::judge::case;
 use crate::words::NONE;
-use crate::words::WORDS;
 use crate::words::client;
 use crate::words::item;
-use crate::words::with;
-use table::LinkedTable;
+use table::LinkedTable as Kind;
 
-fn item_chain(t: [u32; WORDS]) {
-    judge(
-        b"free item none",
-        with(t, LinkedTable::FREE_ITEM_AT, NONE),
-        WORDS,
-    );
-    judge(
-        b"free item row 6",
-        with(t, LinkedTable::FREE_ITEM_AT, 6),
-        WORDS,
-    );
-    judge(
-        b"free item past the first",
-        with(t, LinkedTable::FREE_ITEM_AT, 5),
-        WORDS,
-    );
-    judge(
-        b"free item waits",
-        with(t, LinkedTable::FREE_ITEM_AT, 0),
-        WORDS,
-    );
-    judge(
-        b"free items cut",
-        with(t, item(4, LinkedTable::LATER), NONE),
-        WORDS,
-    );
-    judge(
-        b"free items a circle",
-        with(t, item(5, LinkedTable::LATER), 4),
-        WORDS,
-    );
-    judge(
-        b"free items into the window",
-        with(t, item(5, LinkedTable::LATER), 1),
-        WORDS,
-    );
-    judge(
-        b"free items row 6",
-        with(t, item(5, LinkedTable::LATER), 6),
-        WORDS,
-    );
+fn item_chain() {
+    case(b"free item none", Kind::FREE_ITEM_AT, NONE);
+    case(b"free item row 6", Kind::FREE_ITEM_AT, 6);
+    case(b"free item past the first", Kind::FREE_ITEM_AT, 5);
+    case(b"free item waits", Kind::FREE_ITEM_AT, 0);
+    case(b"free items cut", item(4, Kind::LATER), NONE);
+    case(b"free items a circle", item(5, Kind::LATER), 4);
+    case(b"free items into the window", item(5, Kind::LATER), 1);
+    case(b"free items row 6", item(5, Kind::LATER), 6);
 }
 
-fn client_chain(t: [u32; WORDS]) {
-    judge(
-        b"free client none",
-        with(t, LinkedTable::FREE_CLIENT_AT, NONE),
-        WORDS,
-    );
-    judge(
-        b"free client row 6",
-        with(t, LinkedTable::FREE_CLIENT_AT, 6),
-        WORDS,
-    );
-    judge(
-        b"free client past the first",
-        with(t, LinkedTable::FREE_CLIENT_AT, 4),
-        WORDS,
-    );
-    judge(
-        b"free client waits",
-        with(t, LinkedTable::FREE_CLIENT_AT, 1),
-        WORDS,
-    );
-    judge(
-        b"free clients cut",
-        with(t, client(0, LinkedTable::HEAVIER), NONE),
-        WORDS,
-    );
-    judge(
-        b"free clients a circle",
-        with(t, client(5, LinkedTable::HEAVIER), 0),
-        WORDS,
-    );
-    judge(
-        b"free clients into the order",
-        with(t, client(5, LinkedTable::HEAVIER), 3),
-        WORDS,
-    );
-    judge(
-        b"free clients row 6",
-        with(t, client(5, LinkedTable::HEAVIER), 6),
-        WORDS,
-    );
+fn client_chain() {
+    case(b"free client none", Kind::FREE_CLIENT_AT, NONE);
+    case(b"free client row 6", Kind::FREE_CLIENT_AT, 6);
+    case(b"free client past the first", Kind::FREE_CLIENT_AT, 4);
+    case(b"free client waits", Kind::FREE_CLIENT_AT, 1);
+    case(b"free clients cut", client(0, Kind::HEAVIER), NONE);
+    case(b"free clients a circle", client(5, Kind::HEAVIER), 0);
+    case(b"free clients into the order", client(5, Kind::HEAVIER), 3);
+    case(b"free clients row 6", client(5, Kind::HEAVIER), 6);
 }
 
 // A word left in a free item row.
-fn item_left(t: [u32; WORDS]) {
-    judge(
-        b"free item, owner left",
-        with(t, item(4, LinkedTable::OWNER), 1),
-        WORDS,
-    );
-    judge(
-        b"free item, ticket left",
-        with(t, item(4, LinkedTable::TICKET), 10),
-        WORDS,
-    );
-    judge(
-        b"free item, earlier left",
-        with(t, item(5, LinkedTable::EARLIER), 1),
-        WORDS,
-    );
-    judge(
+fn item_left() {
+    case(b"free item, owner left", item(4, Kind::OWNER), 1);
+    case(b"free item, ticket left", item(4, Kind::TICKET), 10);
+    case(b"free item, earlier left", item(5, Kind::EARLIER), 1);
+    case(
         b"free item, own earlier left",
-        with(t, item(4, LinkedTable::OWN_EARLIER), NONE),
-        WORDS,
+        item(4, Kind::OWN_EARLIER),
+        NONE,
     );
-    judge(
-        b"free item, own later left",
-        with(t, item(5, LinkedTable::OWN_LATER), NONE),
-        WORDS,
-    );
+    case(b"free item, own later left", item(5, Kind::OWN_LATER), NONE);
 }
 
 // A word left in a free client row.
-fn client_left(t: [u32; WORDS]) {
-    judge(
-        b"free client, id left",
-        with(t, client(0, LinkedTable::ID), 7),
-        WORDS,
-    );
-    judge(
-        b"free client, count left",
-        with(t, client(0, LinkedTable::WAITING), 1),
-        WORDS,
-    );
-    judge(
-        b"free client, lighter left",
-        with(t, client(4, LinkedTable::LIGHTER), NONE),
-        WORDS,
-    );
-    judge(
-        b"free client, oldest left",
-        with(t, client(4, LinkedTable::OLDEST), 1),
-        WORDS,
-    );
-    judge(
-        b"free client, newest left",
-        with(t, client(5, LinkedTable::NEWEST), NONE),
-        WORDS,
-    );
-    judge(
+fn client_left() {
+    case(b"free client, id left", client(0, Kind::ID), 7);
+    case(b"free client, count left", client(0, Kind::WAITING), 1);
+    case(b"free client, lighter left", client(4, Kind::LIGHTER), NONE);
+    case(b"free client, oldest left", client(4, Kind::OLDEST), 1);
+    case(b"free client, newest left", client(5, Kind::NEWEST), NONE);
+    case(
         b"free client, bucket left",
-        with(t, client(5, LinkedTable::NEXT_IN_BUCKET), NONE),
-        WORDS,
+        client(5, Kind::NEXT_IN_BUCKET),
+        NONE,
     );
 }
 
-pub fn all(t: [u32; WORDS]) {
-    item_chain(t);
-    client_chain(t);
-    item_left(t);
-    client_left(t);
+pub fn all() {
+    item_chain();
+    client_chain();
+    item_left();
+    client_left();
 }

@@ -1,160 +1,85 @@
 // The order of the tests, and damage to the header.
+use crate::judge::case;
 use crate::judge::judge;
 use crate::words::NONE;
-use crate::words::Q;
 use crate::words::SIZE;
 use crate::words::WORDS;
+use crate::words::base;
 use crate::words::with;
-use table::LinkedTable;
+use table::LinkedTable as Kind;
 
-// Under 16 words, mark or Q, too short for Q, the rest.
-fn tests(t: [u32; WORDS]) {
-    let unmarked = with(t, LinkedTable::MARK_AT, 0);
+// Under 16 words, mark or Q, too short for Q, the rest; first a sound table, of which the calls alter and write words.
+fn tests() {
+    let short = SIZE - 1;
+    let t = base();
+    let unmarked = with(t, Kind::MARK_AT, 0);
+    judge(b"sound", t, WORDS);
+    judge(b"sound, in just its words", t, SIZE);
     judge(b"no word", t, 0);
     judge(b"15 words", t, 15);
     judge(b"15 words, mark", unmarked, 15);
     judge(b"16 words", t, 16);
-    judge(b"one word short", t, SIZE - 1);
-    judge(b"one word short, mark", unmarked, SIZE - 1);
-    judge(
-        b"one word short, Q 0",
-        with(t, LinkedTable::SIZE_AT, 0),
-        SIZE - 1,
-    );
-    judge(
-        b"one word short, a zero",
-        with(t, LinkedTable::ZEROS_AT, 1),
-        SIZE - 1,
-    );
-    judge(
-        b"one word short, front",
-        with(t, LinkedTable::FRONT_AT, 2),
-        SIZE - 1,
-    );
-    judge(
-        b"Q 7 in words for 6",
-        with(t, LinkedTable::SIZE_AT, 7),
-        SIZE,
-    );
+    judge(b"one word short", t, short);
+    judge(b"one word short, mark", unmarked, short);
+    judge(b"one word short, Q 0", with(t, Kind::SIZE_AT, 0), short);
+    judge(b"one word short, zero", with(t, Kind::ZEROS_AT, 1), short);
+    judge(b"one word short, front", with(t, Kind::FRONT_AT, 2), short);
+    judge(b"Q 7 in words for 6", with(t, Kind::SIZE_AT, 7), SIZE);
 }
 
 // Mark and Q.
-fn kind(t: [u32; WORDS]) {
-    judge(b"mark 0", with(t, LinkedTable::MARK_AT, 0), WORDS);
-    judge(
-        b"mark one more",
-        with(t, LinkedTable::MARK_AT, LinkedTable::MARK + 1),
-        WORDS,
-    );
-    judge(b"Q 0", with(t, LinkedTable::SIZE_AT, 0), WORDS);
-    judge(b"Q 5", with(t, LinkedTable::SIZE_AT, 5), WORDS);
-    judge(b"Q 1001", with(t, LinkedTable::SIZE_AT, 1001), WORDS);
-    judge(b"Q 65542", with(t, LinkedTable::SIZE_AT, 65542), WORDS);
-    judge(b"Q none", with(t, LinkedTable::SIZE_AT, NONE), WORDS);
+fn kind() {
+    case(b"mark 0", Kind::MARK_AT, 0);
+    case(b"mark one more", Kind::MARK_AT, Kind::MARK + 1);
+    case(b"Q 0", Kind::SIZE_AT, 0);
+    case(b"Q 5", Kind::SIZE_AT, 5);
+    case(b"Q 1001", Kind::SIZE_AT, 1001);
+    case(b"Q 65542", Kind::SIZE_AT, 65542);
+    case(b"Q none", Kind::SIZE_AT, NONE);
 }
 
 // The six zeros.
-fn zeros(t: [u32; WORDS]) {
-    judge(b"zero 1", with(t, LinkedTable::ZEROS_AT, 1), WORDS);
-    judge(b"zero 2", with(t, LinkedTable::ZEROS_AT + 1, 1), WORDS);
-    judge(b"zero 3", with(t, LinkedTable::ZEROS_AT + 2, NONE), WORDS);
-    judge(b"zero 4", with(t, LinkedTable::ZEROS_AT + 3, 1), WORDS);
-    judge(b"zero 5", with(t, LinkedTable::ZEROS_AT + 4, 1), WORDS);
-    judge(b"zero 6", with(t, LinkedTable::ZEROS_AT + 5, 1), WORDS);
+fn zeros() {
+    case(b"zero 1", Kind::ZEROS_AT, 1);
+    case(b"zero 2", Kind::ZEROS_AT + 1, 1);
+    case(b"zero 3", Kind::ZEROS_AT + 2, NONE);
+    case(b"zero 4", Kind::ZEROS_AT + 3, 1);
+    case(b"zero 5", Kind::ZEROS_AT + 4, 1);
+    case(b"zero 6", Kind::ZEROS_AT + 5, 1);
 }
 
 // How many wait.
-fn counts(t: [u32; WORDS]) {
-    judge(
-        b"requests one more",
-        with(t, LinkedTable::REQUESTS_AT, 5),
-        WORDS,
-    );
-    judge(
-        b"requests one fewer",
-        with(t, LinkedTable::REQUESTS_AT, 3),
-        WORDS,
-    );
-    judge(
-        b"requests beyond Q",
-        with(t, LinkedTable::REQUESTS_AT, 7),
-        WORDS,
-    );
-    judge(
-        b"requests none",
-        with(t, LinkedTable::REQUESTS_AT, NONE),
-        WORDS,
-    );
-    judge(
-        b"clients one more",
-        with(t, LinkedTable::CLIENTS_AT, 4),
-        WORDS,
-    );
-    judge(
-        b"clients one fewer",
-        with(t, LinkedTable::CLIENTS_AT, 2),
-        WORDS,
-    );
-    judge(
-        b"clients beyond Q",
-        with(t, LinkedTable::CLIENTS_AT, 7),
-        WORDS,
-    );
-    judge(
-        b"clients none",
-        with(t, LinkedTable::CLIENTS_AT, NONE),
-        WORDS,
-    );
+fn counts() {
+    case(b"requests one more", Kind::REQUESTS_AT, 5);
+    case(b"requests one fewer", Kind::REQUESTS_AT, 3);
+    case(b"requests beyond Q", Kind::REQUESTS_AT, 7);
+    case(b"requests none", Kind::REQUESTS_AT, NONE);
+    case(b"clients one more", Kind::CLIENTS_AT, 4);
+    case(b"clients one fewer", Kind::CLIENTS_AT, 2);
+    case(b"clients beyond Q", Kind::CLIENTS_AT, 7);
+    case(b"clients none", Kind::CLIENTS_AT, NONE);
 }
 
-// The ends of the window and of the order, and the first free rows.
-fn ends(t: [u32; WORDS]) {
-    judge(
-        b"front another row",
-        with(t, LinkedTable::FRONT_AT, 2),
-        WORDS,
-    );
-    judge(b"front none", with(t, LinkedTable::FRONT_AT, NONE), WORDS);
-    judge(b"front row 6", with(t, LinkedTable::FRONT_AT, 6), WORDS);
-    judge(b"back another row", with(t, LinkedTable::BACK_AT, 3), WORDS);
-    judge(b"back none", with(t, LinkedTable::BACK_AT, NONE), WORDS);
-    judge(b"back row 6", with(t, LinkedTable::BACK_AT, 6), WORDS);
-    judge(
-        b"lightest another row",
-        with(t, LinkedTable::LIGHTEST_AT, 2),
-        WORDS,
-    );
-    judge(
-        b"lightest none",
-        with(t, LinkedTable::LIGHTEST_AT, NONE),
-        WORDS,
-    );
-    judge(
-        b"lightest row 6",
-        with(t, LinkedTable::LIGHTEST_AT, 6),
-        WORDS,
-    );
-    judge(
-        b"heaviest another row",
-        with(t, LinkedTable::HEAVIEST_AT, 2),
-        WORDS,
-    );
-    judge(
-        b"heaviest none",
-        with(t, LinkedTable::HEAVIEST_AT, NONE),
-        WORDS,
-    );
-    judge(
-        b"heaviest row 6",
-        with(t, LinkedTable::HEAVIEST_AT, 6),
-        WORDS,
-    );
+// The ends of the window and of the order. Row 6 is the first that there is not.
+fn ends() {
+    case(b"front another row", Kind::FRONT_AT, 2);
+    case(b"front none", Kind::FRONT_AT, NONE);
+    case(b"front row 6", Kind::FRONT_AT, 6);
+    case(b"back another row", Kind::BACK_AT, 3);
+    case(b"back none", Kind::BACK_AT, NONE);
+    case(b"back row 6", Kind::BACK_AT, 6);
+    case(b"lightest another row", Kind::LIGHTEST_AT, 2);
+    case(b"lightest none", Kind::LIGHTEST_AT, NONE);
+    case(b"lightest row 6", Kind::LIGHTEST_AT, 6);
+    case(b"heaviest another row", Kind::HEAVIEST_AT, 2);
+    case(b"heaviest none", Kind::HEAVIEST_AT, NONE);
+    case(b"heaviest row 6", Kind::HEAVIEST_AT, 6);
 }
 
-pub fn all(t: [u32; WORDS]) {
-    tests(t);
-    kind(t);
-    zeros(t);
-    counts(t);
-    ends(t);
+pub fn all() {
+    tests();
+    kind();
+    zeros();
+    counts();
+    ends();
 }

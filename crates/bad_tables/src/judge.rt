@@ -1,6 +1,8 @@
 // Every call on lent words, and what is printed of it.
 use crate::words::GUARD;
 use crate::words::WORDS;
+use crate::words::base;
+use crate::words::with;
 use limiter::Counted;
 use questions::Listed;
 use questions::Told;
@@ -80,7 +82,13 @@ pub fn judge(name: &[u8], t: [u32; WORDS], n: usize) {
     let blank = [GUARD; OUT];
     let mut out = blank;
     report::text(name);
+    report::text(b":");
     lend(&mut lent, n, &mut out);
     compare(&lent, &t, &out, &blank);
     report::text(b"\n");
+}
+
+// A line for a table that differs from the sound one in one word.
+pub fn case(name: &[u8], at: usize, v: u32) {
+    judge(name, with(base(), at, v), WORDS);
 }

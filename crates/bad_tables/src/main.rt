@@ -10,11 +10,10 @@ mod sound;
 mod words;
 
 fn main() {
-    let t = words::base();
-    header::all(t);
-    rows::all(t);
-    free::all(t);
-    several::all(t);
-    sound::all(t);
+    header::all();
+    rows::all();
+    free::all();
+    several::all();
+    sound::all();
     room::all();
 }
