@@ -37,11 +37,18 @@ fn told(a: Told) -> u32 {
     if let Told::Refused(n) = a { n } else { 0 }
 }
 
-// The numbers of arrive, slide and serve, one after the other on the same words.
+// The number at which a run of one arrival, (1, 99), stops.
+pub fn ran(t: &mut [u32]) -> u32 {
+    let ran = limiter::run(t, &[1, 1, 0, 0, 0, 99, 0, 0, 0], 1);
+    ran.stop
+}
+
+// The numbers of arrive, slide, serve and run, one after the other on the same words.
 fn change(t: &mut [u32]) {
     report::word(b" ", arrived(limiter::arrive(t, 1, 99)));
     report::word(b" ", slid(limiter::slide(t, 1, 99)));
     report::word(b" ", served(limiter::serve(t)));
+    report::word(b" ", ran(t));
 }
 
 // The numbers of heaviest, lightest, count, oldest and newest.
@@ -61,7 +68,7 @@ fn call(t: &mut [u32], out: &mut [u32]) {
 
 fn first(t: &mut [u32], n: usize, out: &mut [u32]) {
     if n <= t.len() {
-        call(&mut t[..n], out);
+        call(&mut t[0..n], out);
     }
 }
 

@@ -1,4 +1,4 @@
-// Damages a table in many ways, a line for each: its name, the numbers that arrive, slide, serve, heaviest, lightest,
+// Damages a table in many ways, a line for each: its name, the numbers that arrive, slide, serve, run, heaviest, lightest,
 // count, oldest and newest give, and how many words of the lent slice, beyond it and of the output differ afterwards.
 mod free;
 mod header;

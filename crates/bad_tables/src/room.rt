@@ -6,7 +6,7 @@ use crate::words::WORDS;
 
 fn laid(t: &mut [u32], n: usize, q: usize) -> u32 {
     if n <= t.len() {
-        layout::lay_out(&mut t[..n], q)
+        layout::lay_out(&mut t[0..n], q)
     } else {
         0
     }

@@ -2,6 +2,7 @@
 use crate::judge::OUT;
 use crate::judge::arrived;
 use crate::judge::ask;
+use crate::judge::ran;
 use crate::judge::served;
 use crate::judge::slid;
 use crate::words::GUARD;
@@ -49,6 +50,12 @@ fn serve(t: [u32; WORDS]) -> usize {
     beyond(&lent)
 }
 
+fn run(t: [u32; WORDS]) -> usize {
+    let mut lent = t;
+    report::word(b" ", ran(&mut lent));
+    beyond(&lent)
+}
+
 // The numbers of the questions.
 fn questions(t: &[u32]) {
     let mut out = [GUARD; OUT];
@@ -64,17 +71,19 @@ fn list(t: &[u32]) {
     }
 }
 
-// A line for one table: the numbers, how many words beyond it arrive, slide and serve altered, and who waits.
+// A line for one table: the numbers, how many words beyond it arrive, slide, serve and run altered, and who waits.
 fn accept(name: &[u8], t: [u32; WORDS]) {
     report::text(name);
     report::text(b":");
     let a = arrive(t);
     let b = slide(t);
     let c = serve(t);
+    let d = run(t);
     questions(&t);
     report::field(b" beyond ", a as u64);
     report::field(b" ", b as u64);
     report::field(b" ", c as u64);
+    report::field(b" ", d as u64);
     list(&t);
     report::text(b"\n");
 }

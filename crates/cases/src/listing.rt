@@ -2,9 +2,9 @@
 use questions::Listed;
 use table::LinkedTable;
 
-const Q: usize = 4;
+pub const Q: usize = 4;
 
-const SIZE: usize = LinkedTable::HEADER + LinkedTable::PLACE * Q;
+pub const SIZE: usize = LinkedTable::HEADER + LinkedTable::PLACE * Q;
 
 // More pairs than any table has clients; twice it passes 64 bits.
 const K: usize = 18_446_744_073_709_551_615;
