@@ -16,9 +16,9 @@ fn tests() {
     judge(b"sound", t, WORDS);
     judge(b"sound, in just its words", t, SIZE);
     judge(b"no word", t, 0);
-    judge(b"15 words", t, 15);
-    judge(b"15 words, mark", unmarked, 15);
-    judge(b"16 words", t, 16);
+    judge(b"15 words", t, Kind::HEADER - 1);
+    judge(b"15 words, mark", unmarked, Kind::HEADER - 1);
+    judge(b"16 words", t, Kind::HEADER);
     judge(b"one word short", t, short);
     judge(b"one word short, mark", unmarked, short);
     judge(b"one word short, Q 0", with(t, Kind::SIZE_AT, 0), short);
@@ -60,7 +60,7 @@ fn counts() {
     case(b"clients none", Kind::CLIENTS_AT, NONE);
 }
 
-// The ends of the window and of the order. Row 6 is the first that there is not.
+// The ends of the window and of the order.
 fn ends() {
     case(b"front another row", Kind::FRONT_AT, 2);
     case(b"front none", Kind::FRONT_AT, NONE);

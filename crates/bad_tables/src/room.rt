@@ -3,6 +3,7 @@ use crate::words::GUARD;
 use crate::words::Q;
 use crate::words::SIZE;
 use crate::words::WORDS;
+use table::LinkedTable;
 
 fn laid(t: &mut [u32], n: usize, q: usize) -> u32 {
     if n <= t.len() {
@@ -78,7 +79,7 @@ fn lay_outs() {
     lay_out(WORDS, 18_446_744_073_709_551_615);
     lay_out(0, 0);
     lay_out(0, Q);
-    lay_out(15, Q);
+    lay_out(LinkedTable::HEADER - 1, Q);
     lay_out(SIZE - 1, Q);
     lay_out(SIZE, Q);
     lay_out(WORDS, Q);

@@ -1,5 +1,6 @@
 // The table that the cases damage: its words, and where they stand.
 ghost use Prim.Native.Nat.{_<_};
+ghost use Rattle.table.specs.Kind as kind;
 use table::LinkedTable;
 
 // Six places, and eight words beyond the table.
@@ -16,13 +17,13 @@ pub const NONE: u32 = LinkedTable::NONE;
 
 // Where a word of a row stands.
 pub fn item(r: usize, f: usize) -> usize
-    requires { ⌜ (r < 6) × (f < 6) ⌝ }
+    requires { ⌜ (r < 6) × (f < kind.itemWords) ⌝ }
 {
     LinkedTable::HEADER + LinkedTable::ITEM * r + f
 }
 
 pub fn client(r: usize, f: usize) -> usize
-    requires { ⌜ (r < 6) × (f < 7) ⌝ }
+    requires { ⌜ (r < 6) × (f < kind.clientWords) ⌝ }
 {
     LinkedTable::HEADER + LinkedTable::ITEM * Q + LinkedTable::CLIENT * r + f
 }
@@ -30,7 +31,7 @@ pub fn client(r: usize, f: usize) -> usize
 // The ends of the group of count n.
 pub fn group(n: usize, f: usize) -> usize
     requires { ⌜ (0 < n) × (n < 7) ⌝ }
-    requires { ⌜ f < 2 ⌝ }
+    requires { ⌜ f < kind.countWords ⌝ }
 {
     LinkedTable::HEADER + LinkedTable::TO_COUNTS * Q + LinkedTable::COUNT * (n - 1) + f
 }

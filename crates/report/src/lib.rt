@@ -7,14 +7,10 @@ pub fn text(s: &[u8]) {
     io::write_all(STDOUT_FILENO, s);
 }
 
-pub fn number(n: u64) {
-    io::print_decimal(STDOUT_FILENO, n);
-}
-
 // A text and the number after it.
 pub fn field(name: &[u8], n: u64) {
     text(name);
-    number(n);
+    io::print_decimal(STDOUT_FILENO, n);
 }
 
 pub fn word(name: &[u8], x: u32) {

@@ -1,6 +1,5 @@
-// What is compared, and what is printed of it.
+// What is compared, and what is printed of it; the words after the lay-out are those of command 0.
 use crate::carry::Reply;
-use crate::text;
 use crate::text::next;
 use crate::text::number;
 use table::LinkedTable;

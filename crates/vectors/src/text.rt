@@ -70,14 +70,21 @@ fn digits(s: &[u8]) -> u64 {
     v
 }
 
-pub fn number(s: &[u8], k: Token) -> u64 {
+fn bytes(s: &[u8], k: Token) -> &[u8] {
     let start = k.start;
     let end = k.end;
-    if start < end && end <= s.len() {
-        digits(&s[start..end])
-    } else {
-        u64::MAX
+    if start <= end && end <= s.len() {
+        return &s[start..end];
     }
+    &s[0..0]
+}
+
+pub fn number(s: &[u8], k: Token) -> u64 {
+    let b = bytes(s, k);
+    if b.len() == 0 {
+        return u64::MAX;
+    }
+    digits(b)
 }
 
 fn command(w: &[u8]) -> u32 {
@@ -113,13 +120,7 @@ fn case(w: &[u8]) -> u32 {
 }
 
 pub fn name(s: &[u8], k: Token) -> u32 {
-    let start = k.start;
-    let end = k.end;
-    if start < end && end <= s.len() {
-        command(&s[start..end])
-    } else {
-        0
-    }
+    command(bytes(s, k))
 }
 
 pub fn print(name: u32) {
