@@ -2,4 +2,3 @@
 pub mod Lists
 pub mod Strands
 pub mod Pools
-pub mod Views

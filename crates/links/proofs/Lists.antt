@@ -10,7 +10,7 @@ use Rattle.table.proofs.Draw.{at-same, at-other}
 use Rattle.rules.specs.Rows.{headOr, lastOr, without, In, NotIn, Distinct, Below}
 use Rattle.rules.specs.Linked.{Link, Links, Run, Linked}
 use Rattle.rules.proofs.Rows.{other, notin-left, notin-right, distinct-left, distinct-right, distinct-drop, distinct-put, apart-right, below-drop, below-put, in-below, notin, past, last-in, head-in, split-at}
-use Rattle.rules.proofs.Linked.{run-head, run-last}
+use Rattle.rules.proofs.Linked.{run-head, run-last, run-back}
 use Rattle.links.specs.Steps.{linkOn, linkBack, unlink, insert, ended}
 
 -- runs whose columns agree at the rows
@@ -197,19 +197,7 @@ module _ (q : ℕ) (hq : q ≤ kind.largest) where
       insert-linked L r (L .last) kind.none rs [] (run-last (L .back) (L .on) kind.none (L .first) rs kind.none (L .last) (k .run)) refl
       (rw append-nil n) hr (rw append-nil k)
 
-  pub insert-first : (L : Links) (r : ℕ) (rs : List ℕ) → NotIn r rs → r < q → Linked q L rs → Linked q (insert r kind.none (L .first) L) (r ∷ rs)
-  insert-first L r rs n hr k =
-      insert-linked L r kind.none (L .first) [] rs refl (run-head (L .back) (L .on) kind.none (L .first) rs kind.none (L .last) (k .run)) n hr k
-
-  pub insert-only : (L : Links) (r : ℕ) → r < q → Linked q (insert r kind.none kind.none L) (r ∷ [])
-  insert-only L r hr =
-      insert-linked (ended L kind.none kind.none) r kind.none kind.none [] [] refl refl tt hr (record { run = (refl, refl); distinct = tt; below = tt })
-
 -- the neighbours of a row are rows of its list, or none
-
-run-back : (b o : ℕ → ℕ) (p h : ℕ) (xs : List ℕ) (n l r : ℕ) → Run b o p h xs n l → In r xs → In (b r) (p ∷ xs)
-run-back b o p h [] n l r k i = absurd i
-run-back b o p h (x ∷ xs) n l r k i = ⊎-elim (λ e. inl (ap b e ∙ k .1)) (λ j. inr (run-back b o x (o x) xs n l r (k .2) j)) i
 
 run-on : (b o : ℕ → ℕ) (p h : ℕ) (xs : List ℕ) (n l r : ℕ) → Run b o p h xs n l → In r xs → In (o r) (n ∷ xs)
 run-on b o p h [] n l r k i = absurd i

@@ -51,9 +51,6 @@ module _ {w : ℕ} {g : ℕ → ℕ → ℕ} {c h : ℕ} where
   spare-so g′ {rs} s k =
       record { chain = chain-so (λ i. g i c) (λ i. g′ i c) h h rs refl (λ x i. s x c i) (k .chain); zeros = λ x i f l m. sym (s x f i) ∙ k .zeros x i f l m }
 
-  pub spare-upd : (e f v : ℕ) {rs : List ℕ} → NotIn e rs → Spare w g c h rs → Spare w (upd g e f v) c h rs
-  spare-upd e f v {rs} n = spare-so (upd g e f v) (λ x j i. sym (upd-other g e f v x j (λ z. other e x rs n i (sym z))))
-
 -- one word more of a row is blank
 pub blank-next : (from c v f w : ℕ) (t t₀ : List ℕ) → t ≡ blanked from c v f t₀ → w ≡ cond (eqb f c) v 0 → set t (from + f) w ≡ blanked from c v (f + 1) t₀
 unfolding blanked

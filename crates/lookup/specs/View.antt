@@ -1,8 +1,7 @@
 -- The promise to the layers above: which clients a table keeps, in which chains. How the chains lie in the words is shut in this module.
-use mathlib.Core.List.{List, [], _∷_}
+use mathlib.Core.List.{List, _∷_}
 use mathlib.Core.Bool.{Bool, true}
 use mathlib.Core.Path.{_≡_, refl, sym, subst}
-use mathlib.Core.Logic.{⊎-elim}
 use Prim.Native.Nat.{ℕ, _<_}
 use native.Mathlib.Omega.{arith}
 use lib.Dec.{lit<}
@@ -13,13 +12,13 @@ use Rattle.table.specs.Regions.{Regions, words, regions, clientWord, bucketWord
 use Rattle.table.proofs.Draw.{at-other}
 use Rattle.table.proofs.Write.{draws, read-client, read-bucket}
 use Rattle.rules.specs.Rows.{In, NotIn, Distinct, without}
-use Rattle.rules.specs.Linked.{Links, Linked, Chain}
+use Rattle.rules.specs.Linked.{Chain}
 use Rattle.rules.specs.Spread.{bucket}
 use Rattle.rules.specs.Tells.{Tells}
-use Rattle.rules.proofs.Rows.{Within, other, in-or-not}
+use Rattle.rules.proofs.Rows.{Within, other}
 use Rattle.lookup.specs.Book.{Book, book, bookOf, idOf, nextOf, from, rowsOf, OwnIds, Filed, Ends, Reaches, Found, enterRow, leaveRow, put, cut, withId}
-use Rattle.lookup.specs.Check.{chainsOf, countOf, Waits, Counted}
-use Rattle.lookup.specs.Laws.Filing.{filed-members, filed-agree, filed-none, found-kept, chain-ends, chain-is, enter-filed, leave-filed, left-aside}
+use Rattle.lookup.specs.Check.{chainsOf, Waits, Counted}
+use Rattle.lookup.specs.Laws.Filing.{filed-agree, found-kept, chain-ends, chain-is, enter-filed, leave-filed, left-aside}
 use Rattle.lookup.specs.Laws.Checking.{check-sound, check-complete}
 
 -- the table keeps the clients cs, in the chains C. The field has no `pub`: no other module can look into it
@@ -55,16 +54,9 @@ module _ {q : ℕ} {t cs : List ℕ} {C : ℕ → List ℕ} (k : Keeps q t cs C)
   pub kept-nobody : Within (rowsOf q C) cs
   kept-nobody = k .filed .nobody
 
-  -- the order of the clients does not matter
-  pub kept-members : (ds : List ℕ) → Within cs ds → Within ds cs → Keeps q t ds C
-  kept-members ds f g = record { filed = filed-members f g (k .filed) }
-
   -- the words fix the chains
   pub kept-columns : (b : ℕ) → b < q → Chain (λ r. clientWord t q r kind.nextInBucket) (bucketWord t q b) (C b)
   kept-columns = k .filed .chained
-
-  pub kept-chains : Sized q t → (b : ℕ) → b < q → chainsOf q t b ≡ C b
-  kept-chains z = chain-is (omega (arith, z .small)) (k .filed)
 
 -- in regions that the table is drawn from
 pub kept-drawn : {q : ℕ} {t cs : List ℕ} {C : ℕ → List ℕ} (R : Regions) → t ≡ words q R → Keeps q t cs C
@@ -93,10 +85,6 @@ module _ {q : ℕ} {t : List ℕ} {b h : ℕ} (z : Sized q t) (hb : b < q) (firs
   pub first-reaches : {x r : ℕ} → ((K : Kept q t) × In r (K .clients)) → x ≡ clientWord t q r kind.id → b ≡ bucket q x → Reaches q (nextOf q t) h r
   first-reaches {x} {r} K id home =
       record { ends = first-ends (K .0); there = rw (first, chain-is (omega (arith, z .small)) (K .0 .keeps .filed) b hb, home, id) (K .0 .keeps .filed .stands r (K .1)) }
-
--- nobody, where every bucket is empty
-pub kept-none : (q : ℕ) (t : List ℕ) → ((b : ℕ) → b < q → bucketWord t q b ≡ kind.none) → Keeps q t [] (λ b. [])
-kept-none q t h = record { filed = filed-none q (bookOf q t) h }
 
 -- a table drawn from regions
 drawn-kept : {q : ℕ} {t cs : List ℕ} {C : ℕ → List ℕ} (R : Regions) → t ≡ words q R → Filed q (book R) cs C → Keeps q t cs C
@@ -153,11 +141,6 @@ pub leave-aside : {q : ℕ} {a cs : List ℕ} {C : ℕ → List ℕ} (r : ℕ) �
 leave-aside {q} {a} {cs} {C} r z m i x l n = left-aside q (omega (arith, z .small)) (regions q a) cs C r (m .filed) i x l n
 
 -- the check
-
--- the clients are known where they are linked, wait, and nobody else does
-pub waits-linked : {q : ℕ} {L : Links} {cs : List ℕ} (t : List ℕ) → Linked q L cs → ((r : ℕ) → In r cs → countOf q t r ≡ 0 → ⊥) → ((r : ℕ) → r < q → NotIn r cs → countOf q t r ≡ 0) → Waits q t cs
-waits-linked {cs = cs} t k some zero =
-    record { distinct = k .distinct; below = k .below; counted = some; others = λ r l n. ⊎-elim (λ i. i) (λ m. absurd (n (zero r l m))) (in-or-not r cs) }
 
 pub checked : {q : ℕ} {t : List ℕ} {n : ℕ} {ok : Bool} → Sized q t → Tells ok (Counted q t n) → Checked q t n ok
 checked z f =

@@ -4,13 +4,13 @@ use mathlib.Core.Path.{_≡_, refl, sym, ap, _∙_}
 use Prim.Native.Nat.{ℕ, _+_, _-_}
 use borrow.Author.Tests.{ne-eqb}
 use Rattle.table.specs.Kind as kind
-use Rattle.table.specs.Regions.{Regions, at}
+use Rattle.table.specs.Regions.{Regions}
 use Rattle.table.proofs.Fields.{each}
 use Rattle.rules.specs.Parts.{Ordered}
 use Rattle.rules.proofs.Linked.{chain-so}
 use Rattle.links.proofs.Lists.{linked-so}
-use Rattle.lookup.specs.Book.{book, withId, enterRow, leaveRow}
-use Rattle.order.specs.Moves.{takeOut, putIn, raiseAfter, raised, lowerAfter, lowered, takeRow, admitted, dismissed}
+use Rattle.lookup.specs.Book.{book}
+use Rattle.order.specs.Moves.{takeOut, putIn, raiseAfter, raised, lowerAfter, lowered, admitted, dismissed}
 
 -- regions that agree in the words of the order: for a writer of other words, each field is `refl`
 pub record Alike (R S : Regions) : Type 0 where
@@ -81,16 +81,3 @@ raised-book r R = refl
 
 pub lowered-book : (r : ℕ) (R : Regions) → book (lowered r R) ≡ book R
 lowered-book r R = refl
-
-pub admitted-book : (q id : ℕ) (R : Regions) → book (admitted q id R) ≡ book (enterRow q (R .header kind.freeClientAt) (takeRow (R .header kind.freeClientAt) id R))
-admitted-book q id R = refl
-
-pub dismissed-book : (q r : ℕ) (R : Regions) → book (dismissed q r R) ≡ withId r 0 (book (leaveRow q r R))
-dismissed-book q r R = refl
-
--- the ids
-pub admitted-id : (q id x : ℕ) (R : Regions) → admitted q id R .client x kind.id ≡ at (λ y. R .client y kind.id) (R .header kind.freeClientAt) id x
-admitted-id q id x R = refl
-
-pub dismissed-id : (q r x : ℕ) (R : Regions) → dismissed q r R .client x kind.id ≡ at (λ y. R .client y kind.id) r 0 x
-dismissed-id q r x R = refl

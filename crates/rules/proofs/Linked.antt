@@ -27,14 +27,14 @@ last-link q xs b n = ⊎-elim (λ e. absurd (n e)) (λ i. in-below q xs b (lastO
 
 -- the row before each row of a run is in it too, or is the one before them all; so links that agree both ways from an end that is none of the rows repeat none
 module _ (b o : ℕ → ℕ) where
-  back-in : (p h : ℕ) (xs : List ℕ) (n l y : ℕ) → Run b o p h xs n l → In y xs → In (b y) (p ∷ xs)
-  back-in p h [] n l y r i = absurd i
-  back-in p h (x ∷ xs) n l y r i = ⊎-elim (λ e. inl (ap b e ∙ r .1)) (λ j. inr (back-in x (o x) xs n l y (r .2) j)) i
+  pub run-back : (p h : ℕ) (xs : List ℕ) (n l y : ℕ) → Run b o p h xs n l → In y xs → In (b y) (p ∷ xs)
+  run-back p h [] n l y r i = absurd i
+  run-back p h (x ∷ xs) n l y r i = ⊎-elim (λ e. inl (ap b e ∙ r .1)) (λ j. inr (run-back x (o x) xs n l y (r .2) j)) i
 
   pub run-distinct : (p h : ℕ) (xs : List ℕ) (n l : ℕ) → NotIn p xs → Run b o p h xs n l → Distinct xs
   run-distinct p h [] n l f r = tt
   run-distinct p h (x ∷ xs) n l f r =
-      let apart : NotIn x xs = notin x xs (λ i. not-both p (x ∷ xs) (rw (r .1) at (back-in x (o x) xs n l x (r .2) i)) f) in
+      let apart : NotIn x xs = notin x xs (λ i. not-both p (x ∷ xs) (rw (r .1) at (run-back x (o x) xs n l x (r .2) i)) f) in
       (apart, run-distinct x (o x) xs n l apart (r .2))
 
 pub run-linked : (q : ℕ) (L : Links) (xs : List ℕ) → q ≤ kind.none → Run (L .back) (L .on) kind.none (L .first) xs kind.none (L .last) → Below q xs → Linked q L xs

@@ -12,7 +12,7 @@ use borrow.Author.Tests.{eqb-true, eqb-false, ne-eqb}
 use Rattle.table.specs.Regions.{upto}
 use Rattle.table.proofs.Draw.{length-upto}
 use Rattle.rules.specs.Rows.{headOr, lastOr, rest, without, In, NotIn, All, Distinct, Below, Once, Rising}
-use Rattle.rules.proofs.Put.{Put, here, put-map, put-second, all-puts, put-in, take-in, put-notin, take-notin, put-distinct, take-distinct, put-below, take-below, put-length, without-put}
+use Rattle.rules.proofs.Put.{Put, here, put-map, put-second, all-puts, put-in, take-in, take-notin, put-distinct, take-distinct, put-below, take-below, put-length, without-put}
 
 -- in and not in
 
@@ -64,12 +64,6 @@ notin-both x (y ∷ xs) ys n m = (n .0, notin-both x xs ys (n .1) m)
 
 between : (r : ℕ) (xs ys : List ℕ) → Put r (xs ++ ys) (xs ++ r ∷ ys)
 between r xs ys = put-second xs here
-
-pub notin-drop : (x r : ℕ) (xs ys : List ℕ) → NotIn x (xs ++ r ∷ ys) → NotIn x (xs ++ ys)
-notin-drop x r xs ys h = take-notin x (between r xs ys) h .1
-
-pub notin-put : (x r : ℕ) (xs ys : List ℕ) → (x ≡ r → ⊥) → NotIn x (xs ++ ys) → NotIn x (xs ++ r ∷ ys)
-notin-put x r xs ys n h = put-notin x (between r xs ys) n h
 
 -- distinct rows
 
@@ -176,12 +170,6 @@ notin-without r z xs n = notin z (without r xs) (λ i. not-both z xs (in-without
 
 pub without-in : (r z : ℕ) (xs : List ℕ) → (z ≡ r → ⊥) → In z xs → In z (without r xs)
 without-in r z xs n i = ⊎-elim (λ p. ⊎-elim (λ e. absurd (n e)) (λ j. j) (take-in z p i)) (λ e. rw e i) (without-is r xs)
-
-pub without-distinct : (r : ℕ) (xs : List ℕ) → Distinct xs → Distinct (without r xs)
-without-distinct r xs d = ⊎-elim (λ p. take-distinct p d .1) (λ e. rw e d) (without-is r xs)
-
-pub without-below : (q r : ℕ) (xs : List ℕ) → Below q xs → Below q (without r xs)
-without-below q r xs b = below-in q (without r xs) (λ x i. in-below q xs b x (in-without r x xs i))
 
 pub without-length : (r : ℕ) (xs : List ℕ) → In r xs → length xs ≡ suc (length (without r xs))
 without-length r xs i = put-length (without-put r xs i)

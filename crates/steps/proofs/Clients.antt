@@ -31,7 +31,6 @@ use Rattle.rules.proofs.Plain.{place-put, client-out}
 use Rattle.rules.proofs.Settle.{waiting, ordered}
 use Rattle.rules.proofs.Moved.{without-rows, place-rows}
 use Rattle.rules.proofs.Ready.{ready-right, ready-sized}
-use Rattle.lookup.specs.Book as lookup
 use Rattle.lookup.specs.Book.{Book, book, bookOf, put}
 use Rattle.lookup.specs.View.{kept-drawn, left-zero, enter-aside, leave-aside}
 use Rattle.lookup.proofs.Ready.{ready-kept}

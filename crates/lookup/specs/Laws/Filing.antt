@@ -58,18 +58,6 @@ filed-by {q} {B} {cs} {C} hq chained stands only ids below =
       below = below;
     }
 
--- the rows matter, and not their order
-pub filed-members : {q : ℕ} {B : Book} {cs ds : List ℕ} {C : ℕ → List ℕ} → Within cs ds → Within ds cs → Filed q B cs C → Filed q B ds C
-filed-members f g F =
-    record {
-      chained = F .chained;
-      stands = λ r i. F .stands r (g r i);
-      apart = F .apart;
-      nobody = λ r i. f r (F .nobody r i);
-      ids = λ r s i j. F .ids r s (g r i) (g s j);
-      below = λ r i. F .below r (g r i);
-    }
-
 -- the clients' own words and the buckets matter, and nothing else
 pub record Agrees (q : ℕ) (cs : List ℕ) (B D : Book) : Type 0 where
   pub id : (r : ℕ) → In r cs → r < q → B .id r ≡ D .id r
@@ -86,18 +74,6 @@ filed-agree {q} {B} {D} {cs} {C} A F =
       nobody = F .nobody;
       ids = λ r s i j e. F .ids r s i j (id r i ∙ e ∙ sym (id s j));
       below = F .below;
-    }
-
--- nobody
-pub filed-none : (q : ℕ) (B : Book) → ((b : ℕ) → b < q → B .head b ≡ kind.none) → Filed q B [] (λ b. [])
-filed-none q B h =
-    record {
-      chained = h;
-      stands = λ r i. i;
-      apart = rows-apart q (λ b. []) (λ b l. tt) (λ r b d l m i j. absurd i);
-      nobody = λ r i. rows-place q (λ b. []) r i .there;
-      ids = λ r s i. absurd i;
-      below = λ r i. absurd i;
     }
 
 -- one more row with an id of its own
