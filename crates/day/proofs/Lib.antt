@@ -1,1 +1,2 @@
 -- Laws of the day record.
+pub mod Refused

@@ -11,15 +11,16 @@ use borrow.Author.Tests.{eqb-true, eqb-false}
 use Rattle.table.specs.Kind as kind
 use Rattle.table.specs.Regions.{Regions, Sized, regions}
 use Rattle.rules.specs.Rows.{In, All, Distinct, Below, Once}
-use Rattle.rules.specs.Linked.{Run, own}
+use Rattle.rules.specs.Linked.{Run, window, own}
 use Rattle.rules.specs.Picture.{Item, itemRow, ownRows}
 use Rattle.rules.specs.Parts.{Own}
-use Rattle.rules.proofs.Rows.{in-either, distinct-both, in-below, below-in, below-right, past, head-any, last-any, all-both, all-in, in-all}
-use Rattle.rules.proofs.Linked.{run-head, run-last}
+use Rattle.rules.proofs.Rows.{distinct-both, once-both, in-below, below-in, below-right, past, head-any, last-any, all-both, all-in, in-all}
+use Rattle.rules.proofs.Linked.{run-head, run-last, run-distinct, run-linked}
+use Rattle.rules.proofs.Columns.{chain-once}
 use Rattle.items_check.specs.Items.{Known, Items, Checked}
 use Rattle.rules.specs.Tells.{Tells}
 use Rattle.items_check.specs.Check.{shownItem, ownOf, Waits, Owned, OwnRest, Follows, Idle, Frees, Whole}
-use Rattle.items_check.proofs.Lists.{run-distinct, between, chain-distinct}
+use Rattle.items_check.proofs.Lists.{between}
 use Rattle.items_check.proofs.WindowTurns.{next-oldest}
 
 -- rows and what they show
@@ -106,11 +107,9 @@ module _ (q : ℕ) (R : Regions) (small : q ≤ kind.largest) (cs : List ℕ) (K
 
     once : R .header kind.requestsAt ≤ q → Once q (rows ++ free)
     once few =
-        record {
-          distinct = distinct-both rows free (distinct _ _ _ rows _ (f .below) (f .run)) (chain-distinct q small (λ r. R .item r kind.later) _ free (g .chain) (g .below)) apart;
-          below = below-in q (rows ++ free) (λ r i. ⊎-elim (in-below q rows (f .below) r) (in-below q free (g .below) r) (in-either r rows free i));
-          long = rw length-append (omega (arith, f .many, g .many));
-        }
+        once-both q rows free
+        (distinct-both rows free (distinct _ _ _ rows _ (f .below) (f .run)) (chain-once q (omega arith) (λ r. R .item r kind.later) _ free (g .below) (g .chain)) apart)
+        (f .below) (g .below) (omega (arith, f .many, g .many))
 
     items : R .header kind.requestsAt ≤ q → Items q R cs
     items few =
@@ -120,7 +119,7 @@ module _ (q : ℕ) (R : Regions) (small : q ≤ kind.largest) (cs : List ℕ) (K
           free = free;
           queued = record {
             waiting = sym (length-map rows (shownItem R) ∙ f .many);
-            window = rw (rows-shown R rows) (record { run = f .run; distinct = distinct _ _ _ rows _ (f .below) (f .run); below = f .below });
+            window = rw (rows-shown R rows) (run-linked q (window R) rows (omega arith) (f .run) (f .below));
             owner = shows (λ i. R .item (i .row) kind.owner ≡ i .client) (λ r o. refl);
             ticket = shows (λ i. R .item (i .row) kind.ticket ≡ i .ticket) (λ r o. refl);
             owners = shows (λ i. i .client < q) (λ r o. o .0);

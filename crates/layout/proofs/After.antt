@@ -1,13 +1,13 @@
 -- After a lay-out the table is sound and nobody waits in it, whatever the words held before.
 use mathlib.Core.List.{List, _++_}
 use mathlib.Core.Bool.{Bool, true, false, cond}
-use mathlib.Core.Path.{_≡_, refl, sym, ap, _∙_}
+use mathlib.Core.Path.{_≡_, refl, _∙_}
 use Prim.Native.Nat.{ℕ, _≤_, _<_}
 use native.Mathlib.Omega.{arith}
-use lib.Dec.{lit<, ltb, eqb}
+use lib.Dec.{lit<, ltb}
 use lib.ListN.{length, getD, take, drop, length-append, List·getD-append}
 use lib.Seq.{take-at}
-use borrow.Author.Tests.{eq-eqb, le-ltb, ltb-false}
+use borrow.Author.Tests.{le-ltb, ltb-false}
 use Rattle.table.specs.Kind as kind
 use Rattle.table.specs.Regions.{words}
 use Rattle.table.proofs.Draw.{length-words, get-header}
@@ -15,12 +15,12 @@ use Rattle.rules.specs.History.{nobody}
 use Rattle.rules.specs.Picture.{plain}
 use Rattle.rules.specs.Steps.{empty}
 use Rattle.rules.specs.Draw.{drawn, draw}
-use Rattle.rules.specs.Sound.{picture, sound}
-use Rattle.rules.specs.Verdict.{room, verdict, layOutNumber, laidOut}
+use Rattle.rules.specs.Sound.{picture}
+use Rattle.rules.specs.Verdict.{verdict, layOutNumber, laidOut}
 use Rattle.rules.proofs.Empty.{empty-sound, empty-picture, empty-plain}
 
 -- what number 0 says of Q and of the words lent
-accepted : (q n : ℕ) → layOutNumber q n ≡ 0 → (kind.inRange q ≡ true) × (kind.size q ≤ n)
+pub accepted : (q n : ℕ) → layOutNumber q n ≡ 0 → (kind.inRange q ≡ true) × (kind.size q ≤ n)
 accepted q n e = go (kind.inRange q) refl (ltb n (kind.size q)) refl e
   where
     go : (a : Bool) → kind.inRange q ≡ a → (b : Bool) → ltb n (kind.size q) ≡ b → _≡_ {A = ℕ} (cond a (cond b 2 0) 1) 0 → (kind.inRange q ≡ true) × (kind.size q ≤ n)
@@ -29,7 +29,7 @@ accepted q n e = go (kind.inRange q) refl (ltb n (kind.size q)) refl e
     go false f b g h = absurd (omega arith)
 
 module _ (q : ℕ) (t : List ℕ) (e : layOutNumber q (length t) ≡ 0) where
-  laid-is : laidOut q t ≡ draw (empty q) ++ drop (kind.size q) t
+  pub laid-is : laidOut q t ≡ draw (empty q) ++ drop (kind.size q) t
   unfolding laidOut
   laid-is = rw e
 

@@ -6,16 +6,16 @@ use Prim.Native.Nat.{ℕ, zero, suc, _+_, _*_, _-_, _≤_, _<_}
 use native.Mathlib.Nat.{mul-zero, mul-suc, add-comm, zero-add, not-suc-le-zero}
 use native.Mathlib.Omega.{arith}
 use lib.Dec.{eqb, ltb, lit<}
-use lib.ListN.{length, set, replicate, take, drop, getD, length-replicate, getD-replicate, length-append, length-drop, replicate-append-replicate}
+use lib.ListN.{length, set, replicate, take, drop, length-replicate, getD-replicate, length-append, length-drop, replicate-append-replicate}
 use lib.Seq.{drop-length, length-take-le, take-length, take-at, drop-at}
 use borrow.Author.Fill.{fill-more}
 use borrow.Rule.Slice.PartMut.{midOf, postOf, putMid}
-use borrow.Author.Tests.{eq-eqb, ne-eqb, lt-ltb, le-ltb, eqb-true, eqb-false, ltb-true, ltb-false}
+use borrow.Author.Tests.{lt-ltb, le-ltb, eqb-true, eqb-false, ltb-true, ltb-false}
 use Rattle.table.specs.Kind as kind
-use Rattle.table.specs.Regions.{Regions, upto, rows, words, Sized, Writes, setHeader, setItem, setClient}
+use Rattle.table.specs.Regions.{Regions, upto, rows, words, Sized, Writes, setItem, setClient}
 use Rattle.table.proofs.Fields.{each, header-fields, item-fields, client-fields, count-fields}
 use Rattle.table.proofs.Draw.{set-item, set-client}
-use Rattle.table.proofs.Whole.{Agree, agree-words}
+use Rattle.table.proofs.Whole.{agree-words}
 use Rattle.table.proofs.Write.{then, write-header}
 use Rattle.rules.specs.Rows.{headOr}
 use Rattle.rules.specs.Steps.{empty, count-up}

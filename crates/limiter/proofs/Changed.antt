@@ -1,6 +1,6 @@
 -- The calls that change the table: what the step on the lent part comes to for all the lent words, and the answer in document 01's numbers; once for arrive, slide and serve.
 use mathlib.Core.List.{List, [], _∷_, _++_, map}
-use mathlib.Core.Path.{_≡_, refl, sym, ap, _∙_, subst}
+use mathlib.Core.Path.{_≡_, refl, sym, subst}
 use Prim.Native.Nat.{ℕ, _+_, _≤_}
 use native.Mathlib.Omega.{arith}
 use native.Mathlib.Nat.{suc-inj, suc-ne-zero}
@@ -25,7 +25,7 @@ use Rattle.limiter.specs.Calls.{choiceValues, arrivedNumbers, slideValue
 use Rattle.limiter.proofs.Lent.{part-size, refuses, answers, answer-numbers}
 
 -- words that follow both lists alter nothing
-altered-before : (xs ys zs : List ℕ) → length ys ≡ length xs → altered (xs ++ zs) (ys ++ zs) ≡ altered xs ys
+pub altered-before : (xs ys zs : List ℕ) → length ys ≡ length xs → altered (xs ++ zs) (ys ++ zs) ≡ altered xs ys
 altered-before [] [] zs e = altered-same zs
 altered-before [] (y ∷ ys) zs e = absurd (suc-ne-zero (length ys) e)
 altered-before (x ∷ xs) [] zs e = absurd (suc-ne-zero (length xs) (sym e))

@@ -9,7 +9,6 @@ use Rattle.rules.specs.Rows.{has}
 use Rattle.rules.specs.History.{Waiting, given, countOf}
 use Rattle.rules.specs.Picture.{plain}
 use Rattle.rules.specs.Sound.{picture}
-use Rattle.rules.specs.Verdict.{room}
 use Rattle.questions.specs.Replies.{needed, listedReply, listedWords, toldReply}
 use Rattle.questions.specs.declared.Listed.{Listed}
 use Rattle.questions.specs.declared.Listed.the-variants as listed

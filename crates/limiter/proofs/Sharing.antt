@@ -6,14 +6,15 @@ use mathlib.Core.Path.{_≡_, refl, sym, ap, _∙_}
 use Prim.Native.Nat.{ℕ, zero, suc, _+_, _*_, _≤_, _<_}
 use native.Mathlib.Omega.{arith}
 use native.Mathlib.Nat.{mul-suc, zero-mul, not-suc-le-zero}
-use lib.Dec.{eqb, leb}
+use lib.Dec.{eqb}
 use lib.ListN.{length, getD, take}
 use borrow.Author.Tests.{eqb-true, eqb-false, leb-true}
 use Rattle.rules.specs.Rows.{In, All, Rising, lastOr}
 use Rattle.rules.specs.History.{Request, Waiting, Choice, joined, evicted, turned, count, newest, heaviestClient, largestCount, full, choice}
-use Rattle.rules.specs.Picture.{Item, Client, Picture, clientRow, clientId, countOf, idOf, requestOf, plain}
+use Rattle.rules.specs.Picture.{Item, Client, Picture, clientRow, clientId, countOf, requestOf}
 use Rattle.rules.specs.Sound.{picture, Right}
 use Rattle.rules.specs.Verdict.{room, verdict}
+use Rattle.rules.proofs.Look.{id-in}
 use Rattle.rules.proofs.Plain.{clients-plain}
 use Rattle.rules.proofs.Ready.{ready-right}
 use Rattle.rules.proofs.Right.{clients-distinct}
@@ -114,15 +115,7 @@ module _ (s : Waiting) (q i : ℕ) (known : All (λ r. In (r .id) (s .order)) (s
           not-largest f (ap (λ (x : ℕ). count x (s .window)) (sym n))
       go false f b h e = let z : _≡_ {A = ℕ} 0 1 = ap code h in omega (arith, z)
 
--- a client's id is one of the ids, and its requests are known by it
-id-in : (cs : List Client) (c : ℕ) → In c (map clientRow cs) → In (idOf cs c) (map clientId cs)
-id-in [] c i = absurd i
-id-in (x ∷ cs) c i = go (eqb (x .row) c) refl (id-in cs c)
-  where
-    go : (b : Bool) → eqb (x .row) c ≡ b → (In c (map clientRow cs) → In (idOf cs c) (map clientId cs)) → In (cond b (x .id) (idOf cs c)) (map clientId (x ∷ cs))
-    go true e h = inl refl
-    go false e h = ⊎-elim (λ f. absurd (eqb-false (x .row) c e (sym f))) (λ j. inr (h j)) i
-
+-- each request is one of the clients'
 owners-known : (cs : List Client) (w : List Item) → All (λ i. In (i .client) (map clientRow cs)) w → All (λ r. In (r .id) (map clientId cs)) (map (requestOf cs) w)
 owners-known cs [] a = tt
 owners-known cs (x ∷ w) a = (id-in cs (x .client) (a .0), owners-known cs w (a .1))

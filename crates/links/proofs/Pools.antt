@@ -1,8 +1,8 @@
 -- Free rows: taking and freeing keep them chained and blank, and the code's writes are those steps.
-use mathlib.Core.List.{List, [], _∷_}
+use mathlib.Core.List.{List, _∷_}
 use mathlib.Core.Bool.{Bool, true, false, cond}
 use mathlib.Core.Path.{_≡_, refl, sym, ap, ap₂, _∙_}
-use mathlib.Core.Logic.{⊎-elim, inl, inr}
+use mathlib.Core.Logic.{⊎-elim, inr}
 use Prim.Native.Nat.{ℕ, zero, suc, _+_, _*_, _≤_, _<_}
 use native.Mathlib.Nat.{not-suc-le-zero}
 use native.Mathlib.Numerals.{add-one}
@@ -11,12 +11,12 @@ use lib.Dec.{eqb}
 use lib.ListN.{getD, set}
 use borrow.Author.Tests.{eqb-true, eqb-false, eq-eqb, ne-eqb}
 use Rattle.table.specs.Kind as kind
-use Rattle.table.specs.Regions.{words, at, upd, setHeader, Writes}
-use Rattle.table.proofs.Draw.{cond-same, at-other}
+use Rattle.table.specs.Regions.{words, upd, setHeader, Writes}
+use Rattle.table.proofs.Draw.{cond-same}
 use Rattle.table.proofs.Write.{nothing, one, then, more, drawn-so, so-read, read-header}
 use Rattle.rules.specs.Rows.{In, NotIn}
-use Rattle.rules.specs.Linked.{Chain}
 use Rattle.rules.proofs.Rows.{other}
+use Rattle.rules.proofs.Linked.{chain-so}
 use Rattle.links.specs.Strands.{Region, place, put}
 use Rattle.links.specs.Pools.{Pool, blank, Spare, takeFrom, freeInto, blanked}
 use Rattle.links.proofs.Strands.{Stands, upd-other}
@@ -28,14 +28,6 @@ blank-row g r c v j = rw (eq-eqb r r refl)
 
 blank-other : (g : ℕ → ℕ → ℕ) (r c v i j : ℕ) → (i ≡ r → ⊥) → blank g r c v i j ≡ g i j
 blank-other g r c v i j n = rw (ne-eqb i r n) (cond-same (eqb j c) (g i j))
-
--- rows chained one way, whose column agrees with another at them; whose column is altered elsewhere
-pub chain-so : (o o′ : ℕ → ℕ) (h h′ : ℕ) (rs : List ℕ) → h ≡ h′ → ((x : ℕ) → In x rs → o x ≡ o′ x) → Chain o h rs → Chain o′ h′ rs
-chain-so o o′ h h′ [] e g k = sym e ∙ k
-chain-so o o′ h h′ (x ∷ rs) e g k = (sym e ∙ k .0, chain-so o o′ (o x) (o′ x) rs (g x (inl refl)) (λ y i. g y (inr i)) (k .1))
-
-pub chain-at : (o : ℕ → ℕ) (h e v : ℕ) (rs : List ℕ) → NotIn e rs → Chain o h rs → Chain (at o e v) h rs
-chain-at o h e v rs n = chain-so o (at o e v) h h rs refl (λ x i. sym (at-other o e v x (λ z. other e x rs n i (sym z))))
 
 module _ {w : ℕ} {g : ℕ → ℕ → ℕ} {c h : ℕ} where
   -- the first is taken

@@ -2,13 +2,13 @@
 use mathlib.Core.List.{List, [], map}
 use mathlib.Core.Path.{_≡_, refl, sym, ap, _∙_, subst}
 use Prim.Native.Nat.{ℕ, _<_}
-use lib.ListN.{length, getD}
+use lib.ListN.{getD}
 use Rattle.table.specs.Kind as kind
 use Rattle.table.specs.Regions.{regions}
-use Rattle.rules.specs.Rows.{In, All, Distinct}
+use Rattle.rules.specs.Rows.{In, All}
 use Rattle.rules.specs.Spread.{bucket}
-use Rattle.rules.specs.Picture.{Client, Picture, clientRow, clientId, clientRows, concat, idOf as named, rowOf}
-use Rattle.rules.specs.Sound.{picture, build, Right, Holds}
+use Rattle.rules.specs.Picture.{Client, clientRow, clientId, clientRows, concat, idOf as named, rowOf}
+use Rattle.rules.specs.Sound.{picture, build}
 use Rattle.rules.specs.Ready.{Ready}
 use Rattle.rules.proofs.Rows.{in-below, all-in, all-both}
 use Rattle.rules.proofs.Put.{take-all}
@@ -16,7 +16,6 @@ use Rattle.rules.proofs.Look.{find, look-in, look-back}
 use Rattle.rules.proofs.Right.{clients-below}
 use Rattle.rules.proofs.Shown.{build-is}
 use Rattle.rules.proofs.Ready.{ready-right, ready-holds}
-use Rattle.lookup.specs.Book.{Filed}
 use Rattle.lookup.specs.View.{Keeps, columns-kept}
 
 -- a fact of each client's row

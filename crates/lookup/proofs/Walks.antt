@@ -13,14 +13,15 @@ use Rattle.rules.specs.Rows.{In, Distinct}
 use Rattle.rules.specs.Linked.{Link}
 use Rattle.rules.specs.Draw.{before}
 use Rattle.rules.proofs.Rows.{other}
+use Rattle.rules.proofs.Columns.{chain-once, followed}
 use Rattle.lookup.specs.Book.{idOf, nextOf, from, OwnIds, Ends, Reaches, Found}
 use Rattle.rules.specs.Tells.{Tells}
-use Rattle.lookup.specs.Laws.Chains.{Step, chain-once, follow-is, step-on}
+use Rattle.lookup.specs.Laws.Chains.{Step, step-on}
 use Rattle.rules.proofs.Tells.{tells-no}
 use Rattle.lookup.specs.Laws.Filing.{own-more, found-none, found-here, found-later}
 
 pub at-none : {q : ℕ} {t : List ℕ} {at : ℕ} → Sized q t → at ≡ kind.none → from q t at ≡ []
-at-none {q} {t} {at} z e = follow-is q (omega (arith, z .small)) (nextOf q t) at [] tt e
+at-none {q} {t} {at} z e = followed q (omega (arith, z .small)) (nextOf q t) at [] tt e
 
 module _ {q : ℕ} {t : List ℕ} {at : ℕ} (z : Sized q t) (e : Ends q (nextOf q t) at) (n : at ≡ kind.none → ⊥) where
   pub step : Step q (nextOf q t) at

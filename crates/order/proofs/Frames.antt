@@ -7,8 +7,8 @@ use Rattle.table.specs.Kind as kind
 use Rattle.table.specs.Regions.{Regions, at}
 use Rattle.table.proofs.Fields.{each}
 use Rattle.rules.specs.Parts.{Ordered}
+use Rattle.rules.proofs.Linked.{chain-so}
 use Rattle.links.proofs.Lists.{linked-so}
-use Rattle.links.proofs.Pools.{chain-so}
 use Rattle.lookup.specs.Book.{book, withId, enterRow, leaveRow}
 use Rattle.order.specs.Moves.{takeOut, putIn, raiseAfter, raised, lowerAfter, lowered, takeRow, admitted, dismissed}
 

@@ -12,7 +12,7 @@ use Rattle.table.proofs.Draw.{at-same, at-other}
 use Rattle.rules.specs.Rows.{without, In, NotIn, Distinct, Rising}
 use Rattle.rules.specs.History.{place}
 use Rattle.rules.specs.Draw.{group}
-use Rattle.rules.proofs.Put.{Put, here, there}
+use Rattle.rules.proofs.Put.{Put, here, there, rising-less}
 use Rattle.rules.proofs.Rows.{other, meets, in-without, Split}
 use Rattle.order.proofs.Joined.{joined, but, joined-so, above, parts, parts-but, of-but, in-joined, among}
 
@@ -54,10 +54,6 @@ module _ (c : ℕ → ℕ) where
       go false p = there p
 
   -- never falling
-
-  rising-less : (m k : ℕ) (ns : List ℕ) → m ≤ k → Rising k ns → Rising m ns
-  rising-less m k [] h s = tt
-  rising-less m k (n ∷ ns) h s = (omega (arith, s .0), s .1)
 
   rising-after : (m k : ℕ) (xs ys : List ℕ) → m ≤ k → ((x : ℕ) → In x xs → c x ≡ k) → Rising k (map c ys) → Rising m (map c (xs ++ ys))
   rising-after m k [] ys h e s = rising-less m k (map c ys) h s

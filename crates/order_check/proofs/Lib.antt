@@ -1,5 +1,4 @@
 -- Laws of the check of the clients.
 pub mod Turns
-pub mod Walks
 pub mod Groups
 pub mod Means

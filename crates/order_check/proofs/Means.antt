@@ -9,11 +9,12 @@ use Rattle.table.specs.Kind as kind
 use Rattle.table.specs.Regions.{Regions, regions}
 use Rattle.rules.specs.Rows.{In, All, Below, Rising}
 use Rattle.rules.specs.Linked.{Run, Chain, order}
-use Rattle.rules.proofs.Rows.{below-right, distinct-both, all-in, in-all}
+use Rattle.rules.proofs.Rows.{below-right, distinct-both, once-both, all-in, in-all}
+use Rattle.rules.proofs.Linked.{run-linked}
+use Rattle.rules.proofs.Columns.{chain-once}
 use Rattle.rules.specs.Tells.{Tells}
 use Rattle.order_check.specs.Check.{Walk, Blank, Free, Passes}
 use Rattle.order_check.specs.Clients.{Clients, Checked}
-use Rattle.order_check.proofs.Walks.{run-linked, chain-distinct, once-both}
 use Rattle.order_check.proofs.Groups.{counts, rising-in, Ends, ends-back, begins, ends-on}
 
 -- the least count that may follow one of c
@@ -98,16 +99,17 @@ module _ (q : ℕ) (R : Regions) where
   pub clients-right : q ≤ kind.largest → Passes q R → Clients q R
   clients-right small p =
       let n = R .header kind.clientsAt in
+      let low : q ≤ kind.none = omega arith in
       let first = R .header kind.freeClientAt in
       let rows = path (order R .on) n (order R .first) in
       let free = path (order R .on) (q - n) first in
       let r = walk-rest n (order R .first) kind.none 0 (p .ranked) in
       let s = free-spare (q - n) first (p .idle) in
       let blank = all-in (Blank R) free (s .blank) in
-      let linked = run-linked q (order R) rows small (r .run) (r .below) in
+      let linked = run-linked q (order R) rows low (r .run) (r .below) in
       let apart : (x : ℕ) → In x rows → In x free → ⊥ = λ x i j.
       omega (arith, rising-in (counts R) 1 rows (r .rising) x i, blank x j kind.count (omega arith) (λ e. omega (arith, e))) in
-      let distinct = distinct-both rows free (linked .distinct) (chain-distinct q small (order R .on) first free (s .chain) (s .below)) apart in
+      let distinct = distinct-both rows free (linked .distinct) (chain-once q low (order R .on) first free (s .below) (s .chain)) apart in
       let long : length rows + length free ≡ q = simp length-path (omega (arith, p .few)) in
       record {
         rows = rows;

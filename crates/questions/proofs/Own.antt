@@ -14,9 +14,8 @@ use Rattle.rules.specs.History as history
 use Rattle.rules.specs.History.{Request, Waiting}
 use Rattle.rules.specs.Picture.{Item, Client, clientRow, clientId, ownRows, idOf, requestOf}
 use Rattle.rules.proofs.Choose.{side-by-side}
-use Rattle.rules.proofs.Put.{put-there}
 use Rattle.rules.proofs.Rows.{last-in}
-use Rattle.rules.proofs.Look.{find}
+use Rattle.rules.proofs.Look.{id-in}
 use Rattle.rules.proofs.Plain.{id-test}
 use Rattle.questions.specs.Replies.{ticketAt}
 use Rattle.questions.proofs.Ends.{End, oldestEnd, newestEnd}
@@ -76,13 +75,10 @@ end-ticket newestEnd s i = newest-ticket i (s .window)
 -- by rows and by id
 
 module _ (cs : List Client) where
-  pub id-in : (c : ℕ) → In c (map clientRow cs) → In (idOf cs c) (map clientId cs)
-  id-in c i = let f = find clientRow c cs i in rw (f .look clientId) (put-there clientId (f .put))
-
   pub count-absent : (x : ℕ) → (In x (map clientId cs) → ⊥) → (w : List Item) → All (λ i. In (i .client) (map clientRow cs)) w → history.count x (map (requestOf cs) w) ≡ 0
   count-absent x n [] a = refl
   count-absent x n (i ∷ w) a =
-      rw (ne-eqb (idOf cs (i .client)) x (λ e. n (subst (λ (z : ℕ). In z (map clientId cs)) e (id-in (i .client) (a .0))))) (count-absent x n w (a .1))
+      rw (ne-eqb (idOf cs (i .client)) x (λ e. n (subst (λ (z : ℕ). In z (map clientId cs)) e (id-in cs (i .client) (a .0))))) (count-absent x n w (a .1))
 
   pub own-tickets : Distinct (map clientId cs) → (c : ℕ) → In c (map clientRow cs) → (f : ℕ → ℕ) (w : List Item) → All (λ i. In (i .client) (map clientRow cs)) w
       → All (λ i. f (i .row) ≡ i .ticket) w → map f (ownRows c w) ≡ tickets (idOf cs c) (map (requestOf cs) w)

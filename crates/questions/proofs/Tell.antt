@@ -12,6 +12,7 @@ use Rattle.rules.specs.Sound.{picture}
 use Rattle.rules.specs.Ready.{Ready}
 use Rattle.rules.proofs.Columns.{first-is, last-is}
 use Rattle.rules.proofs.Decide.{has-decides}
+use Rattle.rules.proofs.Look.{id-in}
 use Rattle.rules.proofs.Right.{clients-below, counts-one}
 use Rattle.rules.proofs.Plain.{count-plain}
 use Rattle.rules.proofs.Ready.{ready-right, ready-holds}
@@ -23,7 +24,7 @@ use Rattle.questions.specs.Replies.{toldReply, ticketAt}
 use Rattle.questions.specs.declared.Told.the-variants.{Ticket, Refused}
 use Rattle.questions.proofs.Ends.{End, oldestEnd, newestEnd}
 use Rattle.questions.proofs.Kept.{ready-low, found-client, found-nobody}
-use Rattle.questions.proofs.Own.{endOr, end-in, end-map, end-ticket, id-in, count-absent, own-tickets}
+use Rattle.questions.proofs.Own.{endOr, end-in, end-map, end-ticket, count-absent, own-tickets}
 
 has-no : (x : ℕ) (xs : List ℕ) → (In x xs → ⊥) → has x xs ≡ false
 has-no x xs n = go (has x xs) refl

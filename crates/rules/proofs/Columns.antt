@@ -2,7 +2,7 @@
 use mathlib.Core.List.{List, [], _∷_, _++_, append-nil}
 use mathlib.Core.Path.{_≡_, refl, sym, ap, _∙_, subst}
 use mathlib.Core.Logic.{⊎-elim, inl, inr}
-use Prim.Native.Nat.{ℕ, zero, suc, _≤_, _<_}
+use Prim.Native.Nat.{ℕ, zero, suc, _+_, _≤_, _<_}
 use native.Mathlib.Nat.{not-suc-le-zero}
 use native.Mathlib.Omega.{arith}
 use lib.ListN.{length, getD}
@@ -13,7 +13,7 @@ use Rattle.rules.specs.Linked.{Links, Linked, Run, Chain}
 use Rattle.rules.specs.Picture.{concat}
 use Rattle.rules.specs.Draw.{after, before, afterIn}
 use Rattle.rules.specs.Sound.{follow}
-use Rattle.rules.proofs.Rows.{other, in-left, in-right, in-either, notin-left, notin-right, distinct-left, distinct-right, apart-right, in-below, at-most}
+use Rattle.rules.proofs.Rows.{notin, other, in-left, in-right, in-either, notin-left, notin-right, distinct-left, distinct-right, apart-right, in-below, at-most}
 use Rattle.rules.proofs.Linked.{run-head, run-last}
 
 -- a row that is not in the list
@@ -100,11 +100,6 @@ in-concat [] b r i = absurd i
 in-concat (c ∷ cs) zero r i = in-left r c (concat cs) i
 in-concat (c ∷ cs) (suc b) r i = in-right r c (concat cs) (in-concat cs b r i)
 
-pub chain-distinct : (cs : List (List ℕ)) (b : ℕ) → Distinct (concat cs) → Distinct (getD cs b [])
-chain-distinct [] b u = tt
-chain-distinct (c ∷ cs) zero u = distinct-left c (concat cs) u
-chain-distinct (c ∷ cs) (suc b) u = chain-distinct cs b (distinct-right c (concat cs) u)
-
 -- the rows of a list are a chain in a column
 abbrev pub ChainIn : (ℕ → ℕ) → List ℕ → Type 0
 ChainIn o xs = Chain o (headOr kind.none xs) xs
@@ -139,15 +134,30 @@ module _ (q : ℕ) (o : ℕ → ℕ) (xs ys : List ℕ) (w : Once q (xs ++ ys)) 
       chain-column o h ys c (distinct-right xs ys (w .distinct)) 0 r i
       ∙ sym (after-out (after 0 ys r) r xs (apart-right r xs ys (w .distinct) i))
 
--- followed, a chain gives its rows
+-- followed, a chain gives its rows: so where it starts fixes it, and no row is met twice
+module _ (q : ℕ) (hq : q ≤ kind.none) (o : ℕ → ℕ) where
+  follow-chain : (k h : ℕ) (xs : List ℕ) → Below q xs → length xs ≤ k → Chain o h xs → follow q o k h ≡ xs
+  unfolding follow
+  follow-chain zero h [] b l c = refl
+  follow-chain (suc k) h [] b l c = rw (le-ltb h q (omega arith))
+  follow-chain zero h (x ∷ xs) b l c = absurd (not-suc-le-zero l)
+  follow-chain (suc k) h (x ∷ xs) b l c =
+      rw (c .0, lt-ltb x q (b .0)) (ap (λ (l : List ℕ). x ∷ l) (follow-chain k (o x) xs (b .1) (omega arith) (c .1)))
 
-follow-chain : (q : ℕ) (o : ℕ → ℕ) (k h : ℕ) (xs : List ℕ) → q ≤ kind.none → Below q xs → length xs ≤ k → Chain o h xs → follow q o k h ≡ xs
-unfolding follow
-follow-chain q o zero h [] hq b l c = refl
-follow-chain q o (suc k) h [] hq b l c = rw (le-ltb h q (omega arith))
-follow-chain q o zero h (x ∷ xs) hq b l c = absurd (not-suc-le-zero l)
-follow-chain q o (suc k) h (x ∷ xs) hq b l c =
-    rw (c .0, lt-ltb x q (b .0)) (ap (λ (l : List ℕ). x ∷ l) (follow-chain q o k (o x) xs hq (b .1) (omega arith) (c .1)))
+  one-chain : (h : ℕ) (xs ys : List ℕ) → Below q xs → Below q ys → Chain o h xs → Chain o h ys → xs ≡ ys
+  one-chain h xs ys a b c d =
+      sym (follow-chain (length xs + length ys) h xs a (omega arith) c) ∙ follow-chain (length xs + length ys) h ys b (omega arith) d
 
-pub followed : (q : ℕ) (o : ℕ → ℕ) (h : ℕ) (xs : List ℕ) → q ≤ kind.none → Distinct xs → Below q xs → Chain o h xs → follow q o q h ≡ xs
-followed q o h xs hq u b c = follow-chain q o q h xs hq b (at-most q xs u b) c
+  no-longer : (h : ℕ) (xs : List ℕ) (y : ℕ) (ys : List ℕ) → Below q xs → Below q ys → Chain o h xs → Chain o y ys → In y xs → length ys ≤ length xs
+  no-longer h [] y ys a b c d i = absurd i
+  no-longer h (x ∷ xs) y ys a b c d i =
+      ⊎-elim (λ e. omega (arith, ap length (one-chain y (x ∷ xs) ys a b (e, c .1) d)))
+      (λ j. omega (arith, no-longer (o x) xs y ys (a .1) b (c .1) d j)) i
+
+  pub chain-once : (h : ℕ) (xs : List ℕ) → Below q xs → Chain o h xs → Distinct xs
+  chain-once h [] b c = tt
+  chain-once h (x ∷ xs) b c =
+      (notin x xs (λ i. omega (arith, no-longer (o x) xs x (x ∷ xs) (b .1) b (c .1) (refl, c .1) i)), chain-once (o x) xs (b .1) (c .1))
+
+  pub followed : (h : ℕ) (xs : List ℕ) → Below q xs → Chain o h xs → follow q o q h ≡ xs
+  followed h xs b c = follow-chain q h xs b (at-most q xs (chain-once h xs b c) b) c

@@ -1,12 +1,14 @@
--- Laws of rows linked both ways: the ends, and the columns that a list fixes.
+-- Laws of linked rows: the ends, the columns that a list fixes, that links both ways meet no row twice, and a chain in another column.
 use mathlib.Core.List.{List, [], _∷_}
-use mathlib.Core.Path.{_≡_}
-use mathlib.Core.Logic.{⊎-elim}
-use Prim.Native.Nat.{ℕ}
+use mathlib.Core.Path.{_≡_, refl, sym, ap, _∙_}
+use mathlib.Core.Logic.{⊎-elim, inl, inr}
+use Prim.Native.Nat.{ℕ, _≤_}
 use Rattle.table.specs.Kind as kind
-use Rattle.rules.specs.Rows.{headOr, lastOr, Below}
-use Rattle.rules.specs.Linked.{Link, Run}
-use Rattle.rules.proofs.Rows.{head-in, last-in, in-below}
+use Rattle.table.specs.Regions.{at}
+use Rattle.table.proofs.Draw.{at-other}
+use Rattle.rules.specs.Rows.{headOr, lastOr, In, NotIn, Distinct, Below}
+use Rattle.rules.specs.Linked.{Link, Links, Run, Linked, Chain}
+use Rattle.rules.proofs.Rows.{not-both, notin, other, head-in, last-in, in-below, past}
 
 pub run-head : (b o : ℕ → ℕ) (p h : ℕ) (xs : List ℕ) (n l : ℕ) → Run b o p h xs n l → h ≡ headOr n xs
 run-head b o p h [] n l r = r .0
@@ -22,3 +24,27 @@ head-link q xs b n = ⊎-elim (λ e. absurd (n e)) (λ i. in-below q xs b (headO
 
 pub last-link : (q : ℕ) (xs : List ℕ) → Below q xs → Link q (lastOr kind.none xs)
 last-link q xs b n = ⊎-elim (λ e. absurd (n e)) (λ i. in-below q xs b (lastOr kind.none xs) i) (last-in kind.none xs)
+
+-- the row before each row of a run is in it too, or is the one before them all; so links that agree both ways from an end that is none of the rows repeat none
+module _ (b o : ℕ → ℕ) where
+  back-in : (p h : ℕ) (xs : List ℕ) (n l y : ℕ) → Run b o p h xs n l → In y xs → In (b y) (p ∷ xs)
+  back-in p h [] n l y r i = absurd i
+  back-in p h (x ∷ xs) n l y r i = ⊎-elim (λ e. inl (ap b e ∙ r .1)) (λ j. inr (back-in x (o x) xs n l y (r .2) j)) i
+
+  pub run-distinct : (p h : ℕ) (xs : List ℕ) (n l : ℕ) → NotIn p xs → Run b o p h xs n l → Distinct xs
+  run-distinct p h [] n l f r = tt
+  run-distinct p h (x ∷ xs) n l f r =
+      let apart : NotIn x xs = notin x xs (λ i. not-both p (x ∷ xs) (rw (r .1) at (back-in x (o x) xs n l x (r .2) i)) f) in
+      (apart, run-distinct x (o x) xs n l apart (r .2))
+
+pub run-linked : (q : ℕ) (L : Links) (xs : List ℕ) → q ≤ kind.none → Run (L .back) (L .on) kind.none (L .first) xs kind.none (L .last) → Below q xs → Linked q L xs
+run-linked q L xs hq r b =
+    record { run = r; distinct = run-distinct (L .back) (L .on) kind.none (L .first) xs kind.none (L .last) (past q kind.none xs hq b) r; below = b }
+
+-- rows chained one way, whose column agrees with another at them; whose column is altered elsewhere
+pub chain-so : (o o′ : ℕ → ℕ) (h h′ : ℕ) (rs : List ℕ) → h ≡ h′ → ((x : ℕ) → In x rs → o x ≡ o′ x) → Chain o h rs → Chain o′ h′ rs
+chain-so o o′ h h′ [] e g k = sym e ∙ k
+chain-so o o′ h h′ (x ∷ rs) e g k = (sym e ∙ k .0, chain-so o o′ (o x) (o′ x) rs (g x (inl refl)) (λ y i. g y (inr i)) (k .1))
+
+pub chain-at : (o : ℕ → ℕ) (e v h : ℕ) (rs : List ℕ) → NotIn e rs → Chain o h rs → Chain (at o e v) h rs
+chain-at o e v h rs n = chain-so o (at o e v) h h rs refl (λ x i. sym (at-other o e v x (λ z. other e x rs n i (sym z))))

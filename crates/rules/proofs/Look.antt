@@ -8,7 +8,7 @@ use native.Mathlib.Decide.{ℕ-discrete}
 use lib.Dec.{eqb}
 use borrow.Author.Tests.{eq-eqb, ne-eqb}
 use Rattle.rules.specs.Rows.{headOr, In, NotIn, All, Distinct}
-use Rattle.rules.specs.Picture.{Item, itemRow, ownRows, countOf, look}
+use Rattle.rules.specs.Picture.{Item, Client, itemRow, clientRow, clientId, ownRows, countOf, idOf, look}
 use Rattle.rules.specs.Draw.{ownerOf}
 use Rattle.rules.proofs.Put.{Put, here, there, put-map, put-in, take-all, all-puts, put-there, put-fresh}
 use Rattle.rules.proofs.Rows.{other, not-both, notin, head-some}
@@ -134,3 +134,7 @@ pub own-some : (c : ℕ) (w : List Item) → 1 ≤ countOf w c → In c (map (λ
 own-some c w h =
     let o = own-item c (headOr 0 (ownRows c w)) w (head-some 0 (ownRows c w) h) in
     put-in c (put-map (λ i. i .client) (o .put)) (inl (sym (o .client)))
+
+-- a client's id is one of the ids
+pub id-in : (cs : List Client) (c : ℕ) → In c (map clientRow cs) → In (idOf cs c) (map clientId cs)
+id-in cs c i = let f = find clientRow c cs i in rw (f .look clientId) (put-there clientId (f .put))

@@ -1,19 +1,19 @@
 -- The steps on pictures, row by row: what they do to the rows of the clients and to the counts.
-use mathlib.Core.List.{List, [], _∷_, _++_, map}
+use mathlib.Core.List.{List, [], _∷_, map}
 use mathlib.Core.Bool.{Bool, true, false, cond}
 use mathlib.Core.Path.{_≡_, refl, sym, ap, _∙_, fun-ext}
-use Prim.Native.Nat.{ℕ, suc, _+_, _-_, _≤_}
+use Prim.Native.Nat.{ℕ, _+_, _-_}
 use native.Mathlib.Numerals.{add-one}
 use native.Mathlib.Omega.{arith}
 use lib.Dec.{eqb, leb}
 use lib.ListN.{length}
-use borrow.Author.Tests.{eqb-true, eqb-false, eq-eqb}
+use borrow.Author.Tests.{eqb-true, eqb-false}
 use Rattle.table.specs.Regions.{at}
 use Rattle.rules.specs.Rows.{without}
 use Rattle.rules.specs.History as history
-use Rattle.rules.specs.Picture.{Item, Client, item, clientRow, ownRows, countOf}
+use Rattle.rules.specs.Picture.{Item, Client, clientRow, countOf}
 use Rattle.rules.specs.Steps.{withoutClient, place}
-use Rattle.rules.proofs.Put.{Put, put-last, put-length}
+use Rattle.rules.proofs.Put.{Put, put-length}
 use Rattle.rules.proofs.Look.{own-put, own-kept}
 
 pub without-rows : (r : ℕ) (cs : List Client) → map clientRow (withoutClient r cs) ≡ without r (map clientRow cs)

@@ -13,7 +13,7 @@ use Rattle.table.proofs.Fields.{client-fields}
 use Rattle.rules.specs.Rows.{headOr, lastOr, In, All, Rising}
 use Rattle.rules.specs.Linked as linked
 use Rattle.rules.specs.Linked.{Links, Linked, Chain}
-use Rattle.rules.specs.Picture.{Item, Picture, itemRow, clientRow, itemRows, clientRows, ownRows, countOf}
+use Rattle.rules.specs.Picture.{Item, Picture, clientRow, clientRows, ownRows, countOf}
 use Rattle.rules.specs.Draw.{group}
 use Rattle.rules.specs.Sound.{Right, Holds}
 use Rattle.rules.specs.Parts.{Ordered, Own, Queued}

@@ -107,12 +107,12 @@ put-once q p s o =
 
 -- numbers that never fall
 
-weaken : (m n : ℕ) (xs : List ℕ) → m ≤ n → Rising n xs → Rising m xs
-weaken m n [] h u = tt
-weaken m n (x ∷ xs) h u = (omega (arith, u .0), u .1)
+pub rising-less : (m n : ℕ) (xs : List ℕ) → m ≤ n → Rising n xs → Rising m xs
+rising-less m n [] h u = tt
+rising-less m n (x ∷ xs) h u = (omega (arith, u .0), u .1)
 
 pub take-rising : (m : ℕ) {r : ℕ} {xs ys : List ℕ} → Put r xs ys → Rising m ys → Rising m xs
-take-rising m {r} {xs} here u = weaken m r xs (u .0) (u .1)
+take-rising m {r} {xs} here u = rising-less m r xs (u .0) (u .1)
 take-rising m (there {x = x} p) u = (u .0, take-rising x p (u .1))
 
 -- taken out by its key: `drop` is any function that leaves out the first of c's key

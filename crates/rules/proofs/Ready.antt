@@ -1,7 +1,7 @@
 -- What a ready table has: its size, a right picture, and the words that hold it.
 use mathlib.Core.List.{List}
 use mathlib.Core.Path.{_≡_, sym, ap, _∙_, subst}
-use Prim.Native.Nat.{ℕ, _≤_, _<_}
+use Prim.Native.Nat.{ℕ, _≤_}
 use lib.ListN.{length}
 use Rattle.table.specs.Kind as kind
 use Rattle.table.specs.Regions.{words, regions, Sized}

@@ -1,13 +1,13 @@
 -- Laws of lists of rows, said once for every layer.
 use mathlib.Core.List.{List, [], _∷_, _++_, map}
 use mathlib.Core.Bool.{Bool, true, false}
-use mathlib.Core.Path.{_≡_, refl, sym, ap, ap₂, subst}
+use mathlib.Core.Path.{_≡_, refl, sym, ap, ap₂, _∙_, subst}
 use mathlib.Core.Logic.{_⊎_, ⊎-elim, inl, inr}
-use Prim.Native.Nat.{ℕ, zero, suc, _≤_, _<_}
+use Prim.Native.Nat.{ℕ, zero, suc, _+_, _≤_, _<_}
 use native.Mathlib.Nat.{not-suc-le-zero, le-of-suc-le-suc}
 use native.Mathlib.Omega.{arith}
 use lib.Dec.{eqb}
-use lib.ListN.{length}
+use lib.ListN.{length, length-append}
 use borrow.Author.Tests.{eqb-true, eqb-false, ne-eqb}
 use Rattle.table.specs.Regions.{upto}
 use Rattle.table.proofs.Draw.{length-upto}
@@ -280,3 +280,12 @@ rebuild key make (x ∷ xs) a = ap₂ _∷_ (a .0) (rebuild key make xs (a .1))
 pub rising-least : (m : ℕ) (f : ℕ → ℕ) (xs : List ℕ) → Rising m (map f xs) → (r : ℕ) → In r xs → m ≤ f r
 rising-least m f [] u r i = absurd i
 rising-least m f (x ∷ xs) u r i = ⊎-elim (λ e. rw e (u .0)) (λ j. omega (arith, u .0, rising-least (f x) f xs (u .1) r j)) i
+
+-- two lists with no row in common that are together as many as there are rows
+pub once-both : (q : ℕ) (xs ys : List ℕ) → Distinct (xs ++ ys) → Below q xs → Below q ys → length xs + length ys ≡ q → Once q (xs ++ ys)
+once-both q xs ys d a b e =
+    record {
+      distinct = d;
+      below = below-in q (xs ++ ys) (λ x i. ⊎-elim (in-below q xs a x) (in-below q ys b x) (in-either x xs ys i));
+      long = length-append xs ys ∙ e;
+    }

@@ -29,7 +29,7 @@ then-join {J = J} id ticket j h =
     let k = join-step J id ticket (j .right) h in
     record { right = k .right; size = k .size ∙ j .size; plain = k .plain ∙ ap (λ (s : Waiting). history.join s (request id ticket)) (j .plain) }
 
-stay : (P : Picture) → Right P → Step (P .size) (plain P) P
+pub stay : (P : Picture) → Right P → Step (P .size) (plain P) P
 stay P v = record { right = v; size = refl; plain = refl }
 
 nobody-leaves : (f : Item → Request) (s : Waiting) (w : List Item) → length w ≡ 0 → s ≡ dropFront (map f w) s

@@ -2,19 +2,16 @@
 use mathlib.Core.List.{List}
 use Prim.Native.Nat.{ℕ}
 use lib.ListN.{length}
+use Rattle.rules.specs.History.{Waiting}
 use Rattle.rules.specs.Commands.{Outcome}
 use Rattle.rules.specs.Run.{stop, carried, outcomes, joins, evicts, passes, serves, turns, idles, total}
 use Rattle.rules.specs.Picture.{Picture, plain}
 use Rattle.run.specs.declared.Ran.{Ran}
 
--- what the commands before the stop come to, from a picture, with a budget
-abbrev pub outcomesFrom : Picture → ℕ → List ℕ → List Outcome
-outcomesFrom P b s = outcomes (P .size) (plain P) (carried b s)
-
--- the report
-abbrev pub reported : Picture → ℕ → List ℕ → Ran
-reported P b s =
-    let os : List Outcome = outcomesFrom P b s in
+-- the report with a budget b on the bytes s, where w waits in a window of q places
+abbrev pub reportOf : ℕ → Waiting → ℕ → List ℕ → Ran
+reportOf q w b s =
+    let os : List Outcome = outcomes q w (carried b s) in
     record {
       stop = stop b s;
       done = length (carried b s);
@@ -25,3 +22,10 @@ reported P b s =
       turned = total turns os;
       idle = total idles os;
     }
+
+-- from a picture: what the commands before the stop come to, and the report
+abbrev pub outcomesFrom : Picture → ℕ → List ℕ → List Outcome
+outcomesFrom P b s = outcomes (P .size) (plain P) (carried b s)
+
+abbrev pub reported : Picture → ℕ → List ℕ → Ran
+reported P b s = reportOf (P .size) (plain P) b s

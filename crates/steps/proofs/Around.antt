@@ -1,27 +1,24 @@
 -- All that a picture's words are but the waiting items: the window's steps leave it alone, and with the items it is the whole.
-use mathlib.Core.List.{List, [], _∷_, map}
-use mathlib.Core.Path.{_≡_, refl, sym, ap, _∙_, subst}
-use Prim.Native.Nat.{ℕ, _+_, _≤_, _<_}
+use mathlib.Core.List.{List, []}
+use mathlib.Core.Path.{_≡_, sym, ap, _∙_, subst}
+use Prim.Native.Nat.{ℕ, _+_, _<_}
 use native.Mathlib.Omega.{arith}
 use lib.Dec.{lit<}
-use lib.ListN.{length, getD}
+use lib.ListN.{getD}
 use Rattle.table.specs.Kind as kind
 use Rattle.table.specs.Regions.{Regions, regions}
-use Rattle.rules.specs.Rows.{lastOr, In, All}
+use Rattle.rules.specs.Rows.{In, All}
 use Rattle.rules.specs.Linked.{Chain}
-use Rattle.rules.specs.Picture.{Item, Client, Picture, itemRow, clientRow, clientRows, ownRows, countOf}
-use Rattle.rules.specs.Steps.{joinAs}
+use Rattle.rules.specs.Picture.{Item, Picture, clientRows, countOf}
 use Rattle.rules.specs.Sound.{picture, Right, Holds}
 use Rattle.rules.specs.Ready.{Ready}
 use Rattle.rules.specs.Parts.{Ordered, Queued}
 use Rattle.rules.proofs.Rows.{all-so}
+use Rattle.rules.proofs.Linked.{chain-so}
 use Rattle.rules.proofs.Parts.{hold-ordered, hold-queued, parts-hold}
 use Rattle.rules.proofs.Ready.{ready-right, ready-holds}
-use Rattle.links.proofs.Pools.{chain-so}
 use Rattle.order.proofs.Frames.{Alike, Beside, ordered-alike}
-use Rattle.window.specs.Steps.{joined}
-use Rattle.window.proofs.Kept.{Keeps, queued-kept, joined-keeps}
-use Rattle.window.proofs.Joined.{joined-queued}
+use Rattle.window.proofs.Kept.{Keeps, queued-kept}
 
 pub record Others (q : ℕ) (T : Regions) (Q : Picture) : Type 0 where
   pub mark : T .header kind.markAt ≡ kind.mark

@@ -11,7 +11,7 @@ use Rattle.table.specs.Regions.{altered}
 use Rattle.table.proofs.Write.{altered-same, altered-trans}
 use Rattle.rules.specs.History as history
 use Rattle.rules.specs.Rows.{lastOr}
-use Rattle.rules.specs.History.{left, evict, Waiting, Choice, Left, joined, evicted, turned, nothing, full, count, newest, heaviestClient, largestCount, choice, slideLeft, front}
+use Rattle.rules.specs.History.{left, evict, Waiting, Choice, Left, joined, evicted, turned, full, count, newest, heaviestClient, largestCount, choice, slideLeft, front}
 use Rattle.rules.specs.Picture.{Item, Picture, item, clientRows, requestOf, plain}
 use Rattle.rules.specs.Steps.{join, leave, newestItem, frontItem, arrivedAs, arrived, slid, served}
 use Rattle.rules.specs.Draw.{draw}

@@ -1,26 +1,26 @@
 -- The order's steps on a ready table: all but the waiting items is then as the next picture has it.
-use mathlib.Core.List.{List, [], _∷_, _++_, map}
+use mathlib.Core.List.{List, [], _∷_, map}
 use mathlib.Core.Bool.{Bool, true, false, cond}
 use mathlib.Core.Path.{_≡_, refl, sym, ap, ap₂, _∙_, subst}
 use mathlib.Core.Logic.{⊎-elim, inl, inr}
 use Prim.Native.Nat.{ℕ, _+_, _-_, _≤_, _<_}
 use native.Mathlib.Omega.{arith}
-use lib.Dec.{eqb, leb}
+use lib.Dec.{eqb}
 use lib.ListN.{length, getD, List·getD-map}
 use borrow.Author.Tests.{eq-eqb, ne-eqb, eqb-true, eqb-false, le-leb}
 use Rattle.table.specs.Kind as kind
 use Rattle.table.specs.Regions.{Regions, words, regions, at}
 use Rattle.table.proofs.Draw.{at-same, at-other}
-use Rattle.rules.specs.Rows.{headOr, rest, without, In, NotIn, All, Distinct, Rising}
+use Rattle.rules.specs.Rows.{headOr, rest, without, In, NotIn, All, Rising}
 use Rattle.rules.specs.Linked.{Chain}
 use Rattle.rules.specs.Spread.{bucket}
 use Rattle.rules.specs.History as history
 use Rattle.rules.specs.Picture.{Item, Client, Picture, client, clientRow, clientId, clientRows, countOf, idOf}
 use Rattle.rules.specs.Steps.{withoutClient, place, moved, enter, admit, release}
-use Rattle.rules.specs.Sound.{picture, Right}
+use Rattle.rules.specs.Sound.{picture}
 use Rattle.rules.specs.Ready.{Ready}
 use Rattle.rules.specs.Parts.{Ordered}
-use Rattle.rules.proofs.Rows.{other, gone, head-rest, meets, in-below, below-right, all-so, all-both, notin-all, not-both, apart-right, distinct-right, head-some}
+use Rattle.rules.proofs.Rows.{other, gone, head-rest, in-below, below-right, all-so, all-both, notin-all, not-both, apart-right, distinct-right, head-some}
 use Rattle.rules.proofs.Put.{Put, put-map, put-all, take-all, put-fresh, put-in}
 use Rattle.rules.proofs.Columns.{chain-head}
 use Rattle.rules.proofs.Look.{find, look-in}
@@ -30,7 +30,7 @@ use Rattle.rules.proofs.Clients.{enter-front, enter-other, bucket-below}
 use Rattle.rules.proofs.Plain.{place-put, client-out}
 use Rattle.rules.proofs.Settle.{waiting, ordered}
 use Rattle.rules.proofs.Moved.{without-rows, place-rows}
-use Rattle.rules.proofs.Ready.{ready-right, ready-sized, ready-holds}
+use Rattle.rules.proofs.Ready.{ready-right, ready-sized}
 use Rattle.lookup.specs.Book as lookup
 use Rattle.lookup.specs.Book.{Book, book, bookOf, put}
 use Rattle.lookup.specs.View.{kept-drawn, left-zero, enter-aside, leave-aside}

@@ -1,11 +1,8 @@
 -- A request leaves a ready table: what the order's step and the window's ask, and that the table is then the drawing of the next picture.
-use mathlib.Core.List.{List, [], _∷_, map}
+use mathlib.Core.List.{List, _∷_, map}
 use mathlib.Core.Path.{_≡_, refl, sym, ap, ap₂, _∙_, subst}
-use mathlib.Core.Logic.{inl}
 use Prim.Native.Nat.{ℕ, _+_, _-_, _≤_, _<_}
 use native.Mathlib.Omega.{arith}
-use lib.Dec.{eqb}
-use lib.ListN.{length, getD}
 use borrow.Author.Tests.{eq-eqb, ne-eqb}
 use Rattle.table.specs.Kind as kind
 use Rattle.table.specs.Regions.{Regions, words, regions, itemWord, clientWord, Writes, altered, at}
@@ -13,17 +10,17 @@ use Rattle.table.proofs.Whole.{whole}
 use Rattle.table.proofs.Write.{then, draws}
 use Rattle.rules.specs.Rows.{In, Distinct}
 use Rattle.rules.specs.History as history
-use Rattle.rules.specs.Picture.{Item, Picture, itemRow, clientRow, clientId, itemRows, clientRows, countOf, idOf, requestOf}
-use Rattle.rules.specs.Steps.{withoutItem, dropItem, leave}
+use Rattle.rules.specs.Picture.{Item, Picture, itemRow, clientRow, clientId, itemRows, clientRows, countOf, idOf, requestOf, plain}
+use Rattle.rules.specs.Steps.{withoutItem, leave}
 use Rattle.rules.specs.Draw.{draw}
-use Rattle.rules.specs.Sound.{picture, Right}
+use Rattle.rules.specs.Sound.{picture, Right, Holds}
 use Rattle.rules.specs.Ready.{Ready}
 use Rattle.rules.specs.Parts.{Queued}
 use Rattle.rules.proofs.Rows.{in-below, not-both}
-use Rattle.rules.proofs.Put.{Put, here, there, put-there, put-map, take-all, take-out, take-distinct}
+use Rattle.rules.proofs.Put.{Put, here, there, put-there, take-all, take-out}
 use Rattle.rules.proofs.Look.{find, look-in}
 use Rattle.rules.proofs.Right.{items-distinct, items-below, clients-below, counts-one}
-use Rattle.rules.proofs.Settle.{count-more}
+use Rattle.rules.proofs.Settle.{Step, count-more}
 use Rattle.rules.proofs.Moves.{leave-last, leave-more, leave-step}
 use Rattle.rules.proofs.Moved.{counts-take}
 use Rattle.rules.proofs.Written.{written}
@@ -124,11 +121,17 @@ module _ {q : ℕ} {t : List ℕ} (y : Ready q t) (r : ℕ) (waits : In r (itemR
       pub still-waits : Waits q a r
       still-waits = record { shown = record { regs = f R; window = P .window; free = P .freeItems; drawn = draws (ready-sized y) x; queued = queued }; there = waits }
 
-      leave-drawn : {u : List ℕ} (Q : Picture) → Right Q → Q .size ≡ q → Q .window ≡ withoutItem (it .row) (P .window) → Q .freeItems ≡ it .row ∷ P .freeItems → Others q (f R) Q
-          → Writes q a u (left r) 12 → u ≡ draw Q
-      leave-drawn Q v s w free o z =
-          written Q v s (ready-sized y) (then x z)
-          (others-hold (left-keeps r (f R)) v s o (rw (w, free, row) (left-queued (ready-sized y .small) r waits queued)))
+    leave-holds : (f : Regions → Regions) → Beside R (f R) → (Q : Picture) → Right Q → Q .size ≡ q → Q .window ≡ withoutItem (it .row) (P .window) → Q .freeItems ≡ it .row ∷ P .freeItems
+        → Others q (f R) Q → Holds (left r (f R)) Q
+    leave-holds f b Q v s w free o =
+        others-hold (left-keeps r (f R)) v s o (rw (w, free, row) (left-queued (ready-sized y .small) r waits (queued-beside b (ready-queued y))))
+
+    next : Step (P .size) (history.changed (idOf (P .clients) (it .client)) (map (requestOf (P .clients)) others) (plain P)) (leave P it)
+    next = leave-step P it others (ready-right y) put
+
+    -- words that hold the next picture are its drawing
+    leave-drawn : {u : List ℕ} {f : Regions → Regions} {k : ℕ} → Writes q t u f k → Holds (f R) (leave P it) → u ≡ draw (leave P it)
+    leave-drawn w h = written (leave P it) (next .right) (next .size ∙ y .size) (ready-sized y) w h
 
     -- its only one
     module _ (only : clientWord t q c kind.count ≡ 1) where
@@ -138,12 +141,15 @@ module _ {q : ℕ} {t : List ℕ} (y : Ready q t) (r : ℕ) (waits : In r (itemR
       pub last-asks : Drawn q t (order.Listed q c (λ m. Unit {0})) × ((K : Kept q t) × In c (K .clients))
       last-asks = (asked (λ m. Unit {0}) tt, (record { clients = clientRows P; chains = _; keeps = ready-kept y }, there-client))
 
-      pub last-left : {a u : List ℕ} → Writes q t a (dismissed q c) 12 → Leaves q t a c → Writes q a u (left r) 12 → (u ≡ draw (leave P it)) × (altered t u ≤ 24)
-      last-left {a} {u} x l z =
+      -- a is the table after the order's step
+      pub last-holds : {a : List ℕ} → a ≡ words q (dismissed q c R) → Leaves q t a c → Holds (left r (dismissed q c R)) (leave P it)
+      last-holds drawn l =
           let is = leave-last P it (ap (countOf (withoutItem (it .row) (P .window))) is-client ∙ none) in
-          let j = leave-step P it others (ready-right y) put in
-          let o = others-left y c there-client (draws (ready-sized y) x) l (withoutItem (it .row) (P .window)) (it .row ∷ P .freeItems) (n c - 1) counts none in
-          (rw is (leave-drawn (dismissed q c) (dismissed-beside q c R) x _ (subst Right is (j .right)) (y .size) refl refl (rw is-client o) z), omega (arith, then x z .few))
+          let o = others-left y c there-client drawn l (withoutItem (it .row) (P .window)) (it .row ∷ P .freeItems) (n c - 1) counts none in
+          rw is (leave-holds (dismissed q c) (dismissed-beside q c R) _ (subst Right is (next .right)) (y .size) refl refl (rw is-client o))
+
+      pub last-left : {a u : List ℕ} → Writes q t a (dismissed q c) 12 → Leaves q t a c → Writes q a u (left r) 12 → (u ≡ draw (leave P it)) × (altered t u ≤ 24)
+      last-left x l z = (leave-drawn (then x z) (last-holds (draws (ready-sized y) x) l), omega (arith, then x z .few))
 
     -- one of several
     module _ (several : clientWord t q c kind.count ≡ 1 → ⊥) where
@@ -155,11 +161,13 @@ module _ {q : ℕ} {t : List ℕ} (y : Ready q t) (r : ℕ) (waits : In r (itemR
       pub more-asks : Drawn q t (order.Listed q c (λ m. 2 ≤ m))
       more-asks = asked (λ m. 2 ≤ m) two
 
-      pub more-left : {a u : List ℕ} → Writes q t a (lowered c) 11 → Writes q a u (left r) 12 → (u ≡ draw (leave P it)) × (altered t u ≤ 23)
-      more-left {a} {u} x z =
+      pub more-holds : Holds (left r (lowered c R)) (leave P it)
+      more-holds =
           let some : countOf (withoutItem (it .row) (P .window)) c ≡ 0 → ⊥ = λ e. omega (arith, fewer, two, e) in
           let is = leave-more P it (λ e. some (sym (ap (countOf (withoutItem (it .row) (P .window))) is-client) ∙ e)) in
-          let j = leave-step P it others (ready-right y) put in
           let o = others-moved y c there-client (lowered-beside c R) (lowered-book c R) (withoutItem (it .row) (P .window)) (it .row ∷ P .freeItems) (n c - 1) counts some
           (lowered-ordered (ready-sized y .small) (ready-others y .ordered) c there-client two) in
-          (rw is (leave-drawn (lowered c) (lowered-beside c R) x _ (subst Right is (j .right)) (y .size) refl refl (rw is-client o) z), omega (arith, then x z .few))
+          rw is (leave-holds (lowered c) (lowered-beside c R) _ (subst Right is (next .right)) (y .size) refl refl (rw is-client o))
+
+      pub more-left : {a u : List ℕ} → Writes q t a (lowered c) 11 → Writes q a u (left r) 12 → (u ≡ draw (leave P it)) × (altered t u ≤ 23)
+      more-left x z = (leave-drawn (then x z) more-holds, omega (arith, then x z .few))

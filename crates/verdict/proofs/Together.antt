@@ -1,7 +1,6 @@
 -- The whole of soundness from its parts: the clients' order, the lookup, the items, and the header's own words.
 use mathlib.Core.List.{List, [], _∷_, _++_, map}
-use mathlib.Core.Bool.{true}
-use mathlib.Core.Path.{_≡_, refl, sym, ap, ap₂, _∙_, subst}
+use mathlib.Core.Path.{_≡_, refl, sym, ap, subst}
 use mathlib.Core.Logic.{⊎-elim, inl, inr}
 use Prim.Native.Nat.{ℕ, zero, suc, _+_, _≤_, _<_}
 use native.Mathlib.Nat.{not-suc-le-zero, le-of-suc-le-suc}
@@ -9,11 +8,11 @@ use native.Mathlib.Omega.{arith}
 use lib.Dec.{lit<}
 use lib.ListN.{length, getD}
 use Rattle.table.specs.Kind as kind
-use Rattle.table.specs.Regions.{Regions, words, regions, Sized}
+use Rattle.table.specs.Regions.{Regions, regions, Sized}
 use Rattle.table.proofs.Whole.{whole}
-use Rattle.rules.specs.Rows.{In, NotIn, All, Distinct, Rising}
+use Rattle.rules.specs.Rows.{In, NotIn, All, Distinct}
 use Rattle.rules.specs.Spread.{bucket}
-use Rattle.rules.specs.Picture.{Item, Client, Picture, client, clientRow, clientId, clientRows, ownRows, countOf, concat}
+use Rattle.rules.specs.Picture.{Client, Picture, client, clientRow, clientId, clientRows, countOf, concat}
 use Rattle.rules.specs.Sound.{build, picture, Right, Sound}
 use Rattle.rules.specs.Ready.{Ready}
 use Rattle.rules.specs.Parts.{Ordered, Queued}

@@ -10,10 +10,11 @@ use Rattle.rules.specs.Rows.{In, Distinct}
 use Rattle.rules.specs.Linked.{Chain}
 use Rattle.rules.specs.Spread.{bucket}
 use Rattle.rules.proofs.Rows.{in-below, Within, fewer, all-there, all-in, in-all}
+use Rattle.rules.proofs.Clients.{bucket-below}
 use Rattle.lookup.specs.Book.{bookOf, idOf, nextOf, rowsOf, Filed}
 use Rattle.lookup.specs.Check.{chainsOf, Waits, Fits, Good, Counted}
 use Rattle.lookup.specs.Laws.Buckets.{rows-place, place-rows, rows-same}
-use Rattle.lookup.specs.Laws.Filing.{bucket-below, apart-by, nobody-in, home-in, chain-is, chain-ends}
+use Rattle.lookup.specs.Laws.Filing.{apart-by, nobody-in, home-in, chain-is, chain-ends}
 
 module _ {q : ℕ} (hq : q ≤ kind.none) {t cs : List ℕ} (w : Waits q t cs) where
   -- as many rows as there are clients, all clients, nobody twice: so all of them

@@ -4,7 +4,6 @@ use mathlib.Core.Bool.{Bool, true, false, cond}
 use mathlib.Core.Path.{_≡_, refl, sym, ap, _∙_}
 use mathlib.Core.Logic.{_⊎_, ⊎-elim, inl, inr}
 use Prim.Native.Nat.{ℕ, _≤_, _<_}
-use native.Mathlib.Nat.{mod-lt}
 use native.Mathlib.Omega.{arith}
 use lib.Dec.{eqb}
 use borrow.Author.Tests.{eqb-true, eqb-false, eq-eqb, ne-eqb}
@@ -16,13 +15,12 @@ use Rattle.rules.specs.Linked.{Chain}
 use Rattle.rules.specs.Spread.{bucket}
 use Rattle.rules.specs.Draw.{before}
 use Rattle.rules.proofs.Rows.{not-both, notin, other, in-or-not, below-in, past, in-without, notin-without, without-in, without-absent, gone, Within}
+use Rattle.rules.proofs.Linked.{chain-so, chain-at}
+use Rattle.rules.proofs.Columns.{chain-once, followed}
+use Rattle.rules.proofs.Clients.{bucket-below}
 use Rattle.lookup.specs.Book.{Book, book, chain, rowsOf, OwnIds, Filed, Ends, Found, enterRow, leaveAt, leaveRow, put, cut}
-use Rattle.lookup.specs.Laws.Chains.{chain-agree, chain-frame, chain-once, follow-is, ends-by}
+use Rattle.lookup.specs.Laws.Chains.{ends-by}
 use Rattle.lookup.specs.Laws.Buckets.{rows-place, place-rows, place-once, rows-apart}
-
-pub bucket-below : (q x : ℕ) → 0 < q → bucket q x < q
-unfolding bucket
-bucket-below q x h = mod-lt _ h
 
 -- filed: what follows of one chain, and what suffices of each
 
@@ -82,7 +80,7 @@ pub filed-agree : {q : ℕ} {B D : Book} {cs : List ℕ} {C : ℕ → List ℕ} 
 filed-agree {q} {B} {D} {cs} {C} A F =
     let id : (r : ℕ) → In r cs → B .id r ≡ D .id r = λ r i. A .id r i (F .below r i) in
     record {
-      chained = λ b h. rw (← A .head b h) (chain-agree (B .next) (D .next) (B .head b) (C b) (λ r i. let c = nobody-in F b r h i in A .next r c (F .below r c)) (F .chained b h));
+      chained = λ b h. chain-so (B .next) (D .next) (B .head b) (D .head b) (C b) (A .head b h) (λ r i. let c = nobody-in F b r h i in A .next r c (F .below r c)) (F .chained b h);
       stands = λ r i. rw (← id r i) (F .stands r i);
       apart = F .apart;
       nobody = F .nobody;
@@ -122,7 +120,7 @@ module _ (id : ℕ → ℕ) (x r : ℕ) (rs : List ℕ) where
 
 module _ {q : ℕ} (hq : q ≤ kind.none) {B : Book} {cs : List ℕ} {C : ℕ → List ℕ} (F : Filed q B cs C) (b : ℕ) (h : b < q) where
   pub chain-is : chain q B b ≡ C b
-  chain-is = follow-is q hq (B .next) (B .head b) (C b) (below-chain F b h) (F .chained b h)
+  chain-is = followed q hq (B .next) (B .head b) (C b) (below-chain F b h) (F .chained b h)
 
   pub chain-ends : Ends q (B .next) (B .head b)
   chain-ends = ends-by q hq (B .next) (B .head b) (C b) (below-chain F b h) (F .chained b h)
@@ -160,7 +158,7 @@ module _ (q : ℕ) (R : Regions) (cs : List ℕ) (C : ℕ → List ℕ) (r : ℕ
   enter-chain b j h = go (eqb j b) refl
     where
       old : (v : ℕ) → Chain (at (book R .next) r v) (R .bucket j) (C j)
-      old v = chain-frame (book R .next) r v (R .bucket j) (C j) (notin r (C j) (λ i. not-both r cs (nobody-in F j r h i) new)) (F .chained j h)
+      old v = chain-at (book R .next) r v (R .bucket j) (C j) (notin r (C j) (λ i. not-both r cs (nobody-in F j r h i) new)) (F .chained j h)
 
       go : (d : Bool) → eqb j b ≡ d → Chain (at (book R .next) r (R .bucket b)) (cond d r (R .bucket j)) (cond d (r ∷ C j) (C j))
       go true e = (refl, rw (at-same (book R .next) r (R .bucket b), ← eqb-true j b e) (old (R .bucket j)))
@@ -196,7 +194,7 @@ unhooked o d r p h (x ∷ xs) i n u c = go (eqb x r) refl (λ j. unhooked o d r 
   where
     go : (b : Bool) → eqb x r ≡ b → (In r xs → Chain (at o (before d x xs r) (o r)) (cond (eqb x (before d x xs r)) (o r) (o x)) (without r xs))
         → Chain (at o (cond b p (before d x xs r)) (o r)) (cond (eqb p (cond b p (before d x xs r))) (o r) h) (cond b xs (x ∷ without r xs))
-    go true e f = rw (eq-eqb p p refl, ← eqb-true x r e) (chain-frame o p (o x) (o x) xs (n .1) (c .1))
+    go true e f = rw (eq-eqb p p refl, ← eqb-true x r e) (chain-at o p (o x) (o x) xs (n .1) (c .1))
     go false e f =
         let j : In r xs = ⊎-elim (λ z. absurd (eqb-false x r e (sym z))) (λ k. k) i in
         (rw (ne-eqb p (before d x xs r) (λ z. other p (before d x xs r) (x ∷ xs) n (before-in d x r xs j) z)) (c .0), f j)
@@ -221,13 +219,13 @@ module _ (q : ℕ) (hq : q ≤ kind.none) (R : Regions) (cs : List ℕ) (C : ℕ
       go : (d : Bool) → eqb j b ≡ d → Chain (at o r 0) (cond d (cond (eqb kind.none e) (R .client r kind.nextInBucket) (R .bucket j)) (R .bucket j)) (without r (C j))
       go true g =
           let k : j ≡ b = eqb-true j b g in
-          chain-frame o r 0 _ (without r (C j)) (taken-out r (C j) (once hq F j h))
+          chain-at o r 0 _ (without r (C j)) (taken-out r (C j) (once hq F j h))
           (rw (f, ← k) (unhooked (book R .next) 0 r kind.none (R .bucket j) (C j) (rw k stood) (past-chain hq F j h) (once hq F j h) (F .chained j h)))
       go false g =
           let n = eqb-false j b g in
           let was : NotIn e (C j) = elsewhere j e h n (rw f (before-in 0 kind.none r (C b) stood)) in
           let out : NotIn r (C j) = elsewhere j r h n (inr stood) in
-          rw (without-absent r (C j) out) (chain-frame o r 0 (R .bucket j) (C j) out (chain-frame (book R .next) e _ (R .bucket j) (C j) was (F .chained j h)))
+          rw (without-absent r (C j) out) (chain-at o r 0 (R .bucket j) (C j) out (chain-at (book R .next) e _ (R .bucket j) (C j) was (F .chained j h)))
 
   -- a row that is no client's keeps its word
   aside : (e x : ℕ) → e ≡ before 0 kind.none (C b) r → x < q → NotIn x cs → leaveAt b e r R .client x kind.nextInBucket ≡ R .client x kind.nextInBucket

@@ -5,7 +5,7 @@ use mathlib.Core.Logic.{_↔_, Iff·rfl}
 use native.Mathlib.Omega.{arith}
 use Rattle.table.specs.Regions.{regions}
 use Rattle.order_check.specs.Check.{Free, Idle}
-use Rattle.rules.proofs.Tells.{tells-no, refuted, tells-equal, tells-so}
+use Rattle.rules.proofs.Tells.{tells-no, refuted, tells-equal}
 use Rattle.order_check.proofs.Turns.{free-turn, free-end, left-over}
 use Rattle.order_check.proofs.idle.Statement.{statement}
 use Rattle.order_check.proofs.idle.Tie as tie
