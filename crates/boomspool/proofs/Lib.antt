@@ -1,0 +1,2 @@
+-- What the calls' proofs share.
+pub mod Replies

@@ -1,0 +1,20 @@
+-- The struct holds the answer of the call beneath, whose words these are. Assumes nothing.
+use Rattle.boomspool.proofs.Replies.{hands, telling}
+use borrow.Author.Needs.{needs}
+use Rattle.boomspool.proofs.boomspool_oldest.Statement.{statement}
+use Rattle.boomspool.proofs.boomspool_oldest.Tie as tie
+
+oldest-requires : tie.Need-oldest-requires
+oldest-requires c κs = search needs
+
+told-reply-requires : tie.Need-told-reply-requires
+told-reply-requires c κs = search needs
+
+returns : tie.Need-returns
+returns c =
+    let l = c .before .oldest .ensures in
+    let h = hands telling (l .0) (l .1) (c .told-reply .ensures) in
+    h
+
+pub boomspool-oldest-spec : {M : Type 1} → statement M
+boomspool-oldest-spec = tie.close (tie.spec oldest-requires told-reply-requires returns)

@@ -1,0 +1,79 @@
+-- The struct that the host gets for each answer of the limiter's calls, and its fields in document 01's order.
+-- Each begins with the refusal number, 0 for none; a field is 0 where the answer has nothing to give.
+use mathlib.Core.Bool.{cond}
+use mathlib.Core.List.{List, [], _∷_}
+use Prim.Native.Nat.{ℕ}
+use Rattle.table.specs.Kind as kind
+use Rattle.questions.specs.declared.Listed.{Listed}
+use Rattle.questions.specs.declared.Listed.the-variants as listed
+use Rattle.questions.specs.declared.Told.{Told}
+use Rattle.questions.specs.declared.Told.the-variants as told
+use Rattle.steps.specs.declared.Arrived.{Arrived}
+use Rattle.steps.specs.declared.Arrived.the-variants as arrived
+use Rattle.steps.specs.declared.Slid.{Slid}
+use Rattle.steps.specs.declared.Slid.the-variants as slid
+use Rattle.steps.specs.declared.Served.{Served}
+use Rattle.steps.specs.declared.Served.the-variants as served
+use Rattle.limiter.specs.declared.Counted.{Counted}
+use Rattle.limiter.specs.declared.Counted.the-variants as counted
+use Rattle.boomspool.specs.declared.BoomspoolArrived.{BoomspoolArrived}
+use Rattle.boomspool.specs.declared.BoomspoolSlid.{BoomspoolSlid}
+use Rattle.boomspool.specs.declared.BoomspoolServed.{BoomspoolServed}
+use Rattle.boomspool.specs.declared.BoomspoolListed.{BoomspoolListed}
+use Rattle.boomspool.specs.declared.BoomspoolCounted.{BoomspoolCounted}
+use Rattle.boomspool.specs.declared.BoomspoolTold.{BoomspoolTold}
+
+-- the words that a table of q places takes, 0 where q is out of range
+abbrev pub wordsOf : ℕ → ℕ
+wordsOf q = cond (kind.inRange q) (kind.size q) 0
+
+-- arrive: what happened is 1 joined, 2 evicted, 3 turned away
+abbrev pub arrivedStruct : Arrived → BoomspoolArrived
+arrivedStruct arrived.Joined = record { number = 0; happened = 1; id = 0; ticket = 0 }
+arrivedStruct (arrived.Evicted r) = record { number = 0; happened = 2; id = r .id; ticket = r .ticket }
+arrivedStruct arrived.Turned = record { number = 0; happened = 3; id = 0; ticket = 0 }
+arrivedStruct (arrived.Refused n) = record { number = n; happened = 0; id = 0; ticket = 0 }
+
+abbrev pub arrivedFields : BoomspoolArrived → List ℕ
+arrivedFields r = r .number ∷ r .happened ∷ r .id ∷ r .ticket ∷ []
+
+-- slide: whether a request passed is 0 or 1
+abbrev pub slidStruct : Slid → BoomspoolSlid
+slidStruct slid.Joined = record { number = 0; passed = 0; id = 0; ticket = 0 }
+slidStruct (slid.Passed r) = record { number = 0; passed = 1; id = r .id; ticket = r .ticket }
+slidStruct (slid.Refused n) = record { number = n; passed = 0; id = 0; ticket = 0 }
+
+abbrev pub slidFields : BoomspoolSlid → List ℕ
+slidFields r = r .number ∷ r .passed ∷ r .id ∷ r .ticket ∷ []
+
+-- serve: the request that left
+abbrev pub servedStruct : Served → BoomspoolServed
+servedStruct (served.Left r) = record { number = 0; id = r .id; ticket = r .ticket }
+servedStruct (served.Refused n) = record { number = n; id = 0; ticket = 0 }
+
+abbrev pub servedFields : BoomspoolServed → List ℕ
+servedFields r = r .number ∷ r .id ∷ r .ticket ∷ []
+
+-- heaviest and lightest: how many pairs were written
+abbrev pub listedStruct : Listed → BoomspoolListed
+listedStruct (listed.Number n) = record { number = 0; pairs = n }
+listedStruct (listed.Refused n) = record { number = n; pairs = 0 }
+
+abbrev pub listedFields : BoomspoolListed → List ℕ
+listedFields r = r .number ∷ r .pairs ∷ []
+
+-- count: how many requests of the client wait
+abbrev pub countedStruct : Counted → BoomspoolCounted
+countedStruct (counted.Number n) = record { number = 0; count = n }
+countedStruct (counted.Refused n) = record { number = n; count = 0 }
+
+abbrev pub countedFields : BoomspoolCounted → List ℕ
+countedFields r = r .number ∷ r .count ∷ []
+
+-- oldest and newest: the ticket
+abbrev pub toldStruct : Told → BoomspoolTold
+toldStruct (told.Ticket n) = record { number = 0; ticket = n }
+toldStruct (told.Refused n) = record { number = n; ticket = 0 }
+
+abbrev pub toldFields : BoomspoolTold → List ℕ
+toldFields r = r .number ∷ r .ticket ∷ []

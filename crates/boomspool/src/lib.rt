@@ -1,0 +1,288 @@
+// The calls that a C server links: numbers, slices and structs by value, each thin over the proved call of the same name.
+// None asks anything of what it is lent; include/boomspool.h declares them for C.
+ghost use mathlib.Core.Path.{_≡_};
+ghost use mathlib.Core.List.{[], _∷_};
+ghost use Prim.Native.Nat.{_≤_};
+ghost use lib.ListN.{length};
+ghost use Rattle.table.specs.Regions.{altered};
+ghost use Rattle.rules.specs.History as history;
+ghost use Rattle.rules.specs.Steps as steps;
+ghost use Rattle.rules.specs.Verdict.{layOutNumber, laidOut, afterwards};
+ghost use Rattle.limiter.specs.Lent.{waitingIn, numbersOf};
+ghost use Rattle.limiter.specs.Questions.{listedAnswer, listedOut, listedNumber, countedAnswer, countedNumber, toldAnswer, toldNumber};
+ghost use Rattle.limiter.specs.Calls.{arriveChoice, arriveAnswer, arriveNumber, choiceValues, slideLeaves, slideAnswer, slideNumber, slideValues, serveAnswer, serveNumber, serveValues};
+ghost use Rattle.boomspool.specs.Replies.{wordsOf, arrivedStruct, arrivedFields, slidStruct, slidFields, servedStruct, servedFields, listedStruct, listedFields, countedStruct, countedFields, toldStruct, toldFields};
+use limiter::Counted;
+use questions::Listed;
+use questions::Told;
+use steps::Arrived;
+use steps::Served;
+use steps::Slid;
+use table::LinkedTable;
+
+// The reply to an arrival: what happened, and the request that left for it.
+#[repr(C)]
+pub struct BoomspoolArrived {
+    pub number: u32,
+    pub happened: u32,
+    pub id: u32,
+    pub ticket: u32,
+}
+
+// The reply to a slide: whether a request passed, and which.
+#[repr(C)]
+pub struct BoomspoolSlid {
+    pub number: u32,
+    pub passed: u32,
+    pub id: u32,
+    pub ticket: u32,
+}
+
+// The reply to serve: the request that left.
+#[repr(C)]
+pub struct BoomspoolServed {
+    pub number: u32,
+    pub id: u32,
+    pub ticket: u32,
+}
+
+// The reply to a listing: how many pairs were written.
+#[repr(C)]
+pub struct BoomspoolListed {
+    pub number: u32,
+    pub pairs: usize,
+}
+
+// The reply to count.
+#[repr(C)]
+pub struct BoomspoolCounted {
+    pub number: u32,
+    pub count: u32,
+}
+
+// The reply to oldest and newest.
+#[repr(C)]
+pub struct BoomspoolTold {
+    pub number: u32,
+    pub ticket: u32,
+}
+
+// An answer of the limiter as the struct that C gets, for each call.
+fn arrived_reply(a: Arrived) -> BoomspoolArrived
+    ensures { λ r. ⌜ r ≡ arrivedStruct a ⌝ }
+{
+    match a {
+        Arrived::Joined => BoomspoolArrived {
+            number: 0,
+            happened: 1,
+            id: 0,
+            ticket: 0,
+        },
+        Arrived::Evicted(r) => BoomspoolArrived {
+            number: 0,
+            happened: 2,
+            id: r.id,
+            ticket: r.ticket,
+        },
+        Arrived::Turned => BoomspoolArrived {
+            number: 0,
+            happened: 3,
+            id: 0,
+            ticket: 0,
+        },
+        Arrived::Refused(n) => BoomspoolArrived {
+            number: n,
+            happened: 0,
+            id: 0,
+            ticket: 0,
+        },
+    }
+}
+
+fn slid_reply(a: Slid) -> BoomspoolSlid
+    ensures { λ r. ⌜ r ≡ slidStruct a ⌝ }
+{
+    match a {
+        Slid::Joined => BoomspoolSlid {
+            number: 0,
+            passed: 0,
+            id: 0,
+            ticket: 0,
+        },
+        Slid::Passed(r) => BoomspoolSlid {
+            number: 0,
+            passed: 1,
+            id: r.id,
+            ticket: r.ticket,
+        },
+        Slid::Refused(n) => BoomspoolSlid {
+            number: n,
+            passed: 0,
+            id: 0,
+            ticket: 0,
+        },
+    }
+}
+
+fn served_reply(a: Served) -> BoomspoolServed
+    ensures { λ r. ⌜ r ≡ servedStruct a ⌝ }
+{
+    match a {
+        Served::Left(r) => BoomspoolServed {
+            number: 0,
+            id: r.id,
+            ticket: r.ticket,
+        },
+        Served::Refused(n) => BoomspoolServed {
+            number: n,
+            id: 0,
+            ticket: 0,
+        },
+    }
+}
+
+fn listed_reply(a: Listed) -> BoomspoolListed
+    ensures { λ r. ⌜ r ≡ listedStruct a ⌝ }
+{
+    match a {
+        Listed::Number(n) => BoomspoolListed {
+            number: 0,
+            pairs: n,
+        },
+        Listed::Refused(n) => BoomspoolListed {
+            number: n,
+            pairs: 0,
+        },
+    }
+}
+
+fn counted_reply(a: Counted) -> BoomspoolCounted
+    ensures { λ r. ⌜ r ≡ countedStruct a ⌝ }
+{
+    match a {
+        Counted::Number(n) => BoomspoolCounted {
+            number: 0,
+            count: n,
+        },
+        Counted::Refused(n) => BoomspoolCounted {
+            number: n,
+            count: 0,
+        },
+    }
+}
+
+fn told_reply(a: Told) -> BoomspoolTold
+    ensures { λ r. ⌜ r ≡ toldStruct a ⌝ }
+{
+    match a {
+        Told::Ticket(n) => BoomspoolTold {
+            number: 0,
+            ticket: n,
+        },
+        Told::Refused(n) => BoomspoolTold {
+            number: n,
+            ticket: 0,
+        },
+    }
+}
+
+// The words that a table of q places takes, 0 where q is out of range.
+#[no_mangle]
+pub extern "C" fn boomspool_words(q: usize) -> usize
+    ensures { λ r. ⌜ r ≡ wordsOf q ⌝ }
+{
+    if LinkedTable::in_range(q) {
+        LinkedTable::size(q)
+    } else {
+        0
+    }
+}
+
+// Lays a table of q places out: 0, or 1 where q is out of range, 2 where t is too short.
+#[no_mangle]
+pub extern "C" fn boomspool_lay_out(t: &mut [u32], q: usize) -> u32
+    ensures number { λ r. ⌜ r ≡ layOutNumber q (length (now (t .entry))) ⌝ }
+    ensures words { λ _. ⌜ now (t .exit) ≡ laidOut q (now (t .entry)) ⌝ }
+{
+    layout::lay_out(t, q)
+}
+
+// A request arrives: it joins, a request of the heaviest client leaves for it, or its client is turned away.
+#[no_mangle]
+pub extern "C" fn boomspool_arrive(t: &mut [u32], id: u32, ticket: u32) -> BoomspoolArrived
+    ensures reply { λ r. ⌜ r ≡ arrivedStruct (arriveAnswer id (now (t .entry))) ⌝ }
+    ensures numbers { λ r. ⌜ arrivedFields r ≡ numbersOf (arriveNumber (now (t .entry))) (choiceValues (arriveChoice id (now (t .entry)))) ⌝ }
+    ensures words { λ _. ⌜ now (t .exit) ≡ afterwards (λ P. steps.arrived P id ticket) (now (t .entry)) ⌝ }
+    ensures few { λ _. ⌜ altered (now (t .entry)) (now (t .exit)) ≤ 48 ⌝ }
+{
+    arrived_reply(limiter::arrive(t, id, ticket))
+}
+
+// A request joins; where the window is full, the front request passes first.
+#[no_mangle]
+pub extern "C" fn boomspool_slide(t: &mut [u32], id: u32, ticket: u32) -> BoomspoolSlid
+    ensures reply { λ r. ⌜ r ≡ slidStruct (slideAnswer (now (t .entry))) ⌝ }
+    ensures numbers { λ r. ⌜ slidFields r ≡ numbersOf (slideNumber (now (t .entry))) (slideValues (slideLeaves (now (t .entry)))) ⌝ }
+    ensures words { λ _. ⌜ now (t .exit) ≡ afterwards (λ P. steps.slid P id ticket) (now (t .entry)) ⌝ }
+    ensures few { λ _. ⌜ altered (now (t .entry)) (now (t .exit)) ≤ 48 ⌝ }
+{
+    slid_reply(limiter::slide(t, id, ticket))
+}
+
+// The front request leaves and is the reply.
+#[no_mangle]
+pub extern "C" fn boomspool_serve(t: &mut [u32]) -> BoomspoolServed
+    ensures reply { λ r. ⌜ r ≡ servedStruct (serveAnswer (now (t .entry))) ⌝ }
+    ensures numbers { λ r. ⌜ servedFields r ≡ numbersOf (serveNumber (now (t .entry))) (serveValues (history.served (waitingIn (now (t .entry))))) ⌝ }
+    ensures words { λ _. ⌜ now (t .exit) ≡ afterwards (steps.served) (now (t .entry)) ⌝ }
+    ensures few { λ _. ⌜ altered (now (t .entry)) (now (t .exit)) ≤ 24 ⌝ }
+{
+    served_reply(limiter::serve(t))
+}
+
+// Id and count of the k heaviest clients, heaviest first.
+#[no_mangle]
+pub extern "C" fn boomspool_heaviest(t: &[u32], k: usize, out: &mut [u32]) -> BoomspoolListed
+    ensures reply { λ r. ⌜ r ≡ listedStruct (listedAnswer k (length (now (out .entry))) (now (t .entry))) ⌝ }
+    ensures numbers { λ r. ⌜ listedFields r ≡ numbersOf (listedNumber k (length (now (out .entry))) (now (t .entry))) (history.given k (waitingIn (now (t .entry))) ∷ []) ⌝ }
+    ensures words { λ _. ⌜ now (out .exit) ≡ listedOut history.heaviest k (now (t .entry)) (now (out .entry)) ⌝ }
+{
+    listed_reply(limiter::heaviest(t, k, out))
+}
+
+// Id and count of the k lightest clients, lightest first.
+#[no_mangle]
+pub extern "C" fn boomspool_lightest(t: &[u32], k: usize, out: &mut [u32]) -> BoomspoolListed
+    ensures reply { λ r. ⌜ r ≡ listedStruct (listedAnswer k (length (now (out .entry))) (now (t .entry))) ⌝ }
+    ensures numbers { λ r. ⌜ listedFields r ≡ numbersOf (listedNumber k (length (now (out .entry))) (now (t .entry))) (history.given k (waitingIn (now (t .entry))) ∷ []) ⌝ }
+    ensures words { λ _. ⌜ now (out .exit) ≡ listedOut history.lightest k (now (t .entry)) (now (out .entry)) ⌝ }
+{
+    listed_reply(limiter::lightest(t, k, out))
+}
+
+// How many requests of that client wait.
+#[no_mangle]
+pub extern "C" fn boomspool_count(t: &[u32], id: u32) -> BoomspoolCounted
+    ensures reply { λ r. ⌜ r ≡ countedStruct (countedAnswer id (now (t .entry))) ⌝ }
+    ensures numbers { λ r. ⌜ countedFields r ≡ numbersOf (countedNumber (now (t .entry))) (history.countOf (waitingIn (now (t .entry))) id ∷ []) ⌝ }
+{
+    counted_reply(limiter::count(t, id))
+}
+
+// The ticket of that client's oldest request.
+#[no_mangle]
+pub extern "C" fn boomspool_oldest(t: &[u32], id: u32) -> BoomspoolTold
+    ensures reply { λ r. ⌜ r ≡ toldStruct (toldAnswer history.oldestTicket id (now (t .entry))) ⌝ }
+    ensures numbers { λ r. ⌜ toldFields r ≡ numbersOf (toldNumber id (now (t .entry))) (history.oldestTicket (waitingIn (now (t .entry))) id ∷ []) ⌝ }
+{
+    told_reply(limiter::oldest(t, id))
+}
+
+// The ticket of its newest.
+#[no_mangle]
+pub extern "C" fn boomspool_newest(t: &[u32], id: u32) -> BoomspoolTold
+    ensures reply { λ r. ⌜ r ≡ toldStruct (toldAnswer history.newestTicket id (now (t .entry))) ⌝ }
+    ensures numbers { λ r. ⌜ toldFields r ≡ numbersOf (toldNumber id (now (t .entry))) (history.newestTicket (waitingIn (now (t .entry))) id ∷ []) ⌝ }
+{
+    told_reply(limiter::newest(t, id))
+}
