@@ -78,11 +78,11 @@ fn arrived_reply(a: Arrived) -> BoomspoolArrived
             id: 0,
             ticket: 0,
         },
-        Arrived::Evicted(r) => BoomspoolArrived {
+        Arrived::Evicted(gone) => BoomspoolArrived {
             number: 0,
             happened: 2,
-            id: r.id,
-            ticket: r.ticket,
+            id: gone.id,
+            ticket: gone.ticket,
         },
         Arrived::Turned => BoomspoolArrived {
             number: 0,
@@ -109,11 +109,11 @@ fn slid_reply(a: Slid) -> BoomspoolSlid
             id: 0,
             ticket: 0,
         },
-        Slid::Passed(r) => BoomspoolSlid {
+        Slid::Passed(front) => BoomspoolSlid {
             number: 0,
             passed: 1,
-            id: r.id,
-            ticket: r.ticket,
+            id: front.id,
+            ticket: front.ticket,
         },
         Slid::Refused(n) => BoomspoolSlid {
             number: n,
@@ -128,10 +128,10 @@ fn served_reply(a: Served) -> BoomspoolServed
     ensures { λ r. ⌜ r ≡ servedStruct a ⌝ }
 {
     match a {
-        Served::Left(r) => BoomspoolServed {
+        Served::Left(first) => BoomspoolServed {
             number: 0,
-            id: r.id,
-            ticket: r.ticket,
+            id: first.id,
+            ticket: first.ticket,
         },
         Served::Refused(n) => BoomspoolServed {
             number: n,

@@ -1,0 +1,26 @@
+// The header as C++17: its functions link by their C names, and its structs lie as the archive has them.
+#include "boomspool.h"
+
+static_assert(sizeof(boomspool_arrived) == 16 && offsetof(boomspool_arrived, ticket) == 12, "arrived");
+static_assert(sizeof(boomspool_slid) == 16 && offsetof(boomspool_slid, ticket) == 12, "slid");
+static_assert(sizeof(boomspool_served) == 12 && offsetof(boomspool_served, ticket) == 8, "served");
+static_assert(sizeof(boomspool_listed) == 16 && offsetof(boomspool_listed, pairs) == 8, "listed");
+static_assert(sizeof(boomspool_counted) == 8 && offsetof(boomspool_counted, count) == 4, "counted");
+static_assert(sizeof(boomspool_told) == 8 && offsetof(boomspool_told, ticket) == 4, "told");
+
+int main()
+{
+    uint32_t table[32];
+    if (boomspool_words(1) != 32 || boomspool_lay_out(table, 32, 1) != BOOMSPOOL_OK) {
+        return 1;
+    }
+    const boomspool_arrived joined = boomspool_arrive(table, 32, 7, 70);
+    if (joined.number != BOOMSPOOL_OK || joined.happened != BOOMSPOOL_JOINED) {
+        return 1;
+    }
+    const boomspool_slid slid = boomspool_slide(table, 32, 8, 80);
+    if (slid.passed != 1 || slid.id != 7 || slid.ticket != 70) {
+        return 1;
+    }
+    return boomspool_oldest(table, 32, 8).ticket == 80 ? 0 : 1;
+}

@@ -1,0 +1,115 @@
+/* The limiter's calls for C and C++: link libboomspool.a. docs/HOST.md is the guide, host/example.c a small host.
+ *
+ * A table is lent as a pointer and its number of 32-bit words; words beyond what the table needs are neither read nor
+ * written. NULL goes with 0 words alone. Every call may be given any words and any numbers: what it cannot work on it
+ * refuses with a number, and then writes nothing. What nothing here can check is yours: each pointer is valid for the
+ * length beside it, buffers lent to one call do not overlap, and nobody else writes them meanwhile.
+ */
+#ifndef BOOMSPOOL_H
+#define BOOMSPOOL_H
+
+#include <stddef.h>
+#include <stdint.h>
+
+#ifdef __cplusplus
+extern "C" {
+#endif
+
+/* The refusal numbers: the field `number` of each reply, and what boomspool_lay_out returns. */
+enum boomspool_number {
+    BOOMSPOOL_OK = 0,
+    BOOMSPOOL_PLACES = 1,   /* lay-out: places is 0 or over 1,000 */
+    BOOMSPOOL_SHORT = 2,    /* under 16 words, or fewer than the table takes */
+    BOOMSPOOL_UNSOUND = 3,  /* the words are no sound table */
+    BOOMSPOOL_OUTPUT = 4,   /* the output has too few words for the pairs */
+    BOOMSPOOL_NOBODY = 5,   /* serve: nobody waits */
+    BOOMSPOOL_NO_CLIENT = 6 /* oldest, newest: no request of that client waits */
+};
+
+/* What an arrival came to: the field `happened`, 0 where the call was refused. */
+enum boomspool_happened {
+    BOOMSPOOL_JOINED = 1,
+    BOOMSPOOL_EVICTED = 2,
+    BOOMSPOOL_TURNED_AWAY = 3
+};
+
+/* The replies. `number` is 0 or the refusal; every other field is 0 where there is nothing to give. Id and ticket may
+ * themselves be 0 or any other number, so go by `number`, `happened` and `passed`, and never by them. */
+struct boomspool_arrived {
+    uint32_t number;
+    uint32_t happened;
+    uint32_t id; /* of the request that left, where happened is BOOMSPOOL_EVICTED */
+    uint32_t ticket;
+};
+
+struct boomspool_slid {
+    uint32_t number;
+    uint32_t passed; /* 1 where a request left, 0 where none did */
+    uint32_t id;     /* of that request */
+    uint32_t ticket;
+};
+
+struct boomspool_served {
+    uint32_t number;
+    uint32_t id;
+    uint32_t ticket;
+};
+
+struct boomspool_listed {
+    uint32_t number;
+    size_t pairs; /* written to the output, two words each */
+};
+
+struct boomspool_counted {
+    uint32_t number;
+    uint32_t count;
+};
+
+struct boomspool_told {
+    uint32_t number;
+    uint32_t ticket;
+};
+
+/* The words that a table of that many places takes, 16 + 16 * places; 0 where places is 0 or over 1,000.
+ * It refuses nothing. */
+size_t boomspool_words(size_t places);
+
+/* Makes the first boomspool_words(places) words an empty table, whatever they held.
+ * Returns 0, or 1 where places is 0 or over 1,000, or 2 where there are fewer words than that. */
+uint32_t boomspool_lay_out(uint32_t *table, size_t words, size_t places);
+
+/* A request arrives. It joins at the back (1); or the window is full and the newest request of the heaviest client
+ * leaves for it (2), named in the reply; or its client has the largest count itself and is turned away (3), which
+ * alters nothing and is no refusal. Refusals: 2, 3. */
+struct boomspool_arrived boomspool_arrive(uint32_t *table, size_t words, uint32_t id, uint32_t ticket);
+
+/* A request joins at the back; where the window is full, the front request leaves first, and the reply names it.
+ * Refusals: 2, 3. */
+struct boomspool_slid boomspool_slide(uint32_t *table, size_t words, uint32_t id, uint32_t ticket);
+
+/* The front request, the one that has waited longest, leaves and is the reply.
+ * Refusals: 2, 3, and 5 where nobody waits. */
+struct boomspool_served boomspool_serve(uint32_t *table, size_t words);
+
+/* Writes id and count of min(k, clients) clients, heaviest first: of equal counts, the one first that has had its count
+ * longest. The output's other words stay. k may be SIZE_MAX. The table is only read.
+ * Refusals: 2, 3, and 4 where the output has under 2 * min(k, clients) words. */
+struct boomspool_listed boomspool_heaviest(const uint32_t *table, size_t words, size_t k, uint32_t *output, size_t output_words);
+
+/* The same, lightest first: the exact reverse order. Refusals: 2, 3, 4. */
+struct boomspool_listed boomspool_lightest(const uint32_t *table, size_t words, size_t k, uint32_t *output, size_t output_words);
+
+/* How many requests of that client wait: 0 for an absent one, which is no refusal. Refusals: 2, 3. */
+struct boomspool_counted boomspool_count(const uint32_t *table, size_t words, uint32_t id);
+
+/* The ticket of that client's oldest waiting request. Refusals: 2, 3, and 6 where none of its requests waits. */
+struct boomspool_told boomspool_oldest(const uint32_t *table, size_t words, uint32_t id);
+
+/* The ticket of its newest waiting request. Refusals: 2, 3, 6. */
+struct boomspool_told boomspool_newest(const uint32_t *table, size_t words, uint32_t id);
+
+#ifdef __cplusplus
+}
+#endif
+
+#endif
