@@ -14,24 +14,30 @@ struct CountNode;
 
 using Link = bi::link_mode<bi::normal_link>;
 
-// An item of the queue: one place in the window and one among its itemset's items.
+// An item of the queue, which is no part of HL-HITTERS itself.
 struct Item {
-    bi::list_member_hook<Link> in_queue, in_own;
-    CountNode *owner;
-    std::uint32_t ticket;
+    bi::list_member_hook<Link> hook;
+    std::uint32_t id, ticket;
 };
 
-using Queue = bi::list<Item, bi::member_hook<Item, bi::list_member_hook<Link>, &Item::in_queue>, bi::constant_time_size<true>>;
-using QItems = bi::list<Item, bi::member_hook<Item, bi::list_member_hook<Link>, &Item::in_own>, bi::constant_time_size<false>>;
+using Queue = bi::list<Item, bi::member_hook<Item, bi::list_member_hook<Link>, &Item::hook>, bi::constant_time_size<true>>;
+
+// A node of QItems: a reference to an item in the queue.
+struct QItem {
+    bi::list_member_hook<Link> hook;
+    Item *item;
+};
+
+using QItems = bi::list<QItem, bi::member_hook<QItem, bi::list_member_hook<Link>, &QItem::hook>, bi::constant_time_size<false>>;
 
 struct CountNode {
-    bi::list_member_hook<Link> in_counts;
+    bi::list_member_hook<Link> hook;
     std::uint32_t id;
     std::size_t count;
     QItems items;
 };
 
-using Counts = bi::list<CountNode, bi::member_hook<CountNode, bi::list_member_hook<Link>, &CountNode::in_counts>, bi::constant_time_size<false>>;
+using Counts = bi::list<CountNode, bi::member_hook<CountNode, bi::list_member_hook<Link>, &CountNode::hook>, bi::constant_time_size<false>>;
 
 struct CountRange {
     CountNode *first = nullptr, *last = nullptr;
@@ -60,7 +66,8 @@ template <class Node> class Pool {
 } // namespace
 
 struct hitters {
-    explicit hitters(std::size_t q) : places(q), item_pool(q), node_pool(q), ranges(q + 1) { item_sets.reserve(2 * q); }
+    // The hash table has room for twice the itemsets that there can be: the papers keep its load low.
+    explicit hitters(std::size_t q) : places(q), item_pool(q), qitem_pool(q), node_pool(q), ranges(q + 1) { item_sets.reserve(2 * q); }
     ~hitters() {
         for (CountNode &cn : counts) {
             cn.items.clear();
@@ -71,6 +78,7 @@ struct hitters {
 
     std::size_t places;
     Pool<Item> item_pool;
+    Pool<QItem> qitem_pool;
     Pool<CountNode> node_pool;
     Queue queue;
     Counts counts;
@@ -97,44 +105,53 @@ struct hitters {
     }
 
     // Algorithm 2.
-    void append(CountNode *found, std::uint32_t id, std::uint32_t ticket) {
-        Item *item = item_pool.take();
-        CountNode *cn = found;
+    void append(Item *item) {
+        QItem *q = qitem_pool.take();
+        q->item = item;
+        CountNode *cn = find(item->id);
         if (cn != nullptr) {
             auto next = std::next(counts.iterator_to(*ranges[cn->count].last));
             range_remove(cn);
             counts.erase(counts.iterator_to(*cn));
             cn->count++;
+            cn->items.push_back(*q);
             counts.insert(next, *cn);
-        } else {
-            cn = node_pool.take();
-            cn->id = id;
-            cn->count = 1;
-            counts.push_front(*cn);
-            item_sets.emplace(id, cn);
+            range_insert(cn);
+            return;
         }
+        cn = node_pool.take();
+        cn->id = item->id;
+        cn->count = 1;
+        cn->items.push_back(*q);
+        counts.push_front(*cn);
         range_insert(cn);
-        item->owner = cn;
-        item->ticket = ticket;
-        cn->items.push_back(*item);
-        queue.push_back(*item);
+        item_sets.emplace(item->id, cn);
     }
 
-    // Algorithm 3, for any item: the item knows its count node, so nothing is looked up.
+    // Pops an item that is its itemset's oldest or newest: no other one leaves.
+    void pop(CountNode *cn, Item *item) {
+        QItem &front = cn->items.front(), &back = cn->items.back();
+        if (back.item == item) {
+            cn->items.pop_back();
+            qitem_pool.give_back(&back);
+        } else {
+            cn->items.pop_front();
+            qitem_pool.give_back(&front);
+        }
+    }
+
+    // Algorithm 3.
     void expire(Item *item) {
-        CountNode *cn = item->owner;
-        CountNode *first = ranges[cn->count].first;
-        auto place = counts.iterator_to(*first);
+        CountNode *cn = find(item->id);
+        auto place = counts.iterator_to(*ranges[cn->count].first);
         CountNode *previous = place == counts.begin() ? nullptr : &*std::prev(place);
-        queue.erase(queue.iterator_to(*item));
-        cn->items.erase(cn->items.iterator_to(*item));
-        item_pool.give_back(item);
         range_remove(cn);
         counts.erase(counts.iterator_to(*cn));
+        pop(cn, item);
         cn->count--;
         if (cn->count == 0) {
-            item_sets.erase(cn->id);
             node_pool.give_back(cn);
+            item_sets.erase(item->id);
             return;
         }
         if (previous != nullptr && previous->count == cn->count) {
@@ -147,6 +164,20 @@ struct hitters {
         range_insert(cn);
     }
 
+    // The queue beside it.
+    void join(std::uint32_t id, std::uint32_t ticket) {
+        Item *item = item_pool.take();
+        item->id = id;
+        item->ticket = ticket;
+        queue.push_back(*item);
+        append(item);
+    }
+    void leave(Item *item) {
+        expire(item);
+        queue.erase(queue.iterator_to(*item));
+        item_pool.give_back(item);
+    }
+
     CountNode *find(std::uint32_t id) const {
         auto it = item_sets.find(id);
         return it == item_sets.end() ? nullptr : it->second;
@@ -154,27 +185,26 @@ struct hitters {
 
     // Our arrival rule.
     unsigned arrive(std::uint32_t id, std::uint32_t ticket) {
-        CountNode *cn = find(id);
         unsigned happened = FLAT_JOINED;
         if (queue.size() == places) {
-            CountNode &heaviest = counts.back();
+            CountNode *cn = find(id), &heaviest = counts.back();
             if (cn != nullptr && cn->count == heaviest.count) {
                 return FLAT_TURNED;
             }
-            expire(&heaviest.items.back());
+            leave(heaviest.items.back().item);
             happened = FLAT_EVICTED;
         }
-        append(cn, id, ticket);
+        join(id, ticket);
         return happened;
     }
 
     unsigned slide(std::uint32_t id, std::uint32_t ticket) {
         unsigned happened = FLAT_JOINED;
         if (queue.size() == places) {
-            expire(&queue.front());
+            leave(&queue.front());
             happened = FLAT_PASSED;
         }
-        append(find(id), id, ticket);
+        join(id, ticket);
         return happened;
     }
 
@@ -182,7 +212,7 @@ struct hitters {
         if (queue.empty()) {
             return 0;
         }
-        expire(&queue.front());
+        leave(&queue.front());
         return FLAT_SERVED;
     }
 };
