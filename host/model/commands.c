@@ -225,6 +225,9 @@ static void lay_out_refusals(void) {
     static uint32_t t[MOST_WORDS];
     place = (struct place){"lay-out refused", "none", 0, 0, 0};
     memset(t, 0x5A, sizeof t);
+    if (boomspool_lay_out(NULL, 0, 4) != 2 || boomspool_serve(NULL, 0).number != 2) {
+        differ("no words: number", 0, 2);
+    }
     for (size_t i = 0; i < sizeof bad / sizeof bad[0]; i++) {
         for (size_t words = 0; words < 3; words++) {
             uint32_t number = boomspool_lay_out(t, words == 2 ? MOST_WORDS : 15 * words, bad[i]);

@@ -7,10 +7,11 @@
 #include <stdio.h>
 #include <stdlib.h>
 #include <string.h>
+#include <sys/mman.h>
 
 /* How many tables of a Q. */
 struct share { size_t q, tables; };
-static const struct share shares[] = {{1, 12000}, {2, 30000}, {3, 40000}, {4, 60000}, {5, 60000}, {8, 40000}, {16, 20000}, {64, 2000}, {256, 150}, {1000, 30}};
+static const struct share shares[] = {{1, 12000}, {2, 40000}, {3, 60000}, {4, 80000}, {5, 80000}, {8, 60000}, {16, 30000}, {64, 3000}, {256, 150}, {1000, 40}};
 enum { SHARES = sizeof shares / sizeof shares[0], MOST_IDS = 2 * LARGEST_Q, CLAUSES = 16 };
 
 static struct dice dice;
@@ -22,7 +23,7 @@ static size_t ids;
 
 /* Refusals by the clause that was broken first. */
 static struct { const char *clause; uint64_t tables; } broken[CLAUSES];
-static uint64_t damaged, damaged_but_sound, rearranged, cut_short;
+static uint64_t damaged, damaged_but_sound, rearranged, cut_short, at_edge;
 
 static void note_broken(const char *clause) {
     size_t i = 0;
@@ -198,9 +199,47 @@ static void short_table(size_t q) {
     }
 }
 
+/* Room whose end nobody may touch: the first word that is out of reach. */
+static uint32_t *out_of_reach;
+
+static void make_edge(void) {
+    size_t room = 32 * 4096;
+    uint8_t *pages = mmap(NULL, 2 * room, PROT_READ | PROT_WRITE, MAP_PRIVATE | MAP_ANONYMOUS, -1, 0);
+    if (pages == MAP_FAILED || mprotect(pages + room, room, PROT_NONE) != 0) {
+        perror("mmap");
+        exit(1);
+    }
+    out_of_reach = (uint32_t *)(void *)(pages + room);
+}
+
+/* The table ends where nothing may be touched, and more words are lent than it takes: a word read beyond it would end the program. */
+static void table_at_edge(size_t q) {
+    size_t need = words_of(q), lent_words = need + below(&dice, 1000);
+    uint32_t *t = lend(&lent, need), *edge = out_of_reach - need;
+    picture_draw(&picture, t);
+    if (below(&dice, 2)) {
+        size_t at = HEADER_WORDS + below(&dice, need - HEADER_WORDS);
+        t[at] = plausible(t, q);
+    }
+    memcpy(edge, t, need * sizeof t[0]);
+    uint32_t refused = refusal(t, need), id = palette[below(&dice, ids)];
+    struct boomspool_counted counted = boomspool_count(edge, lent_words, id);
+    struct boomspool_arrived arrived = boomspool_arrive(edge, lent_words, id, 1);
+    struct boomspool_served served = boomspool_serve(edge, lent_words);
+    boomspool_arrive(t, need, id, 1);
+    boomspool_serve(t, need);
+    if (counted.number != refused || arrived.number != refused || served.number != refused) {
+        differ("at the edge: number", counted.number, refused);
+    }
+    if (memcmp(edge, t, need * sizeof t[0]) != 0) {
+        differ("at the edge: a word", 0, 1);
+    }
+    at_edge++;
+}
+
 static void report(void) {
-    printf("damages: %" PRIu64 " damaged tables (%" PRIu64 " of them still sound), %" PRIu64 " rearranged, %" PRIu64 " cut short; no difference\n", damaged,
-           damaged_but_sound, rearranged, cut_short);
+    printf("damages: %" PRIu64 " damaged tables (%" PRIu64 " of them still sound), %" PRIu64 " rearranged, %" PRIu64 " cut short, %" PRIu64 " at the edge of memory; no difference\n",
+           damaged, damaged_but_sound, rearranged, cut_short, at_edge);
     printf("  refused 3 by the clause broken first:");
     for (size_t i = 0; i < CLAUSES && broken[i].clause; i++) {
         printf("%s %s %" PRIu64, i ? "," : "", broken[i].clause, broken[i].tables);
@@ -216,6 +255,7 @@ static void report(void) {
 
 int main(int argc, char **argv) {
     size_t part = argc > 1 ? (size_t)atoi(argv[1]) : 100;
+    make_edge();
     for (size_t s = 0; s < SHARES; s++) {
         size_t q = shares[s].q;
         for (size_t i = 0; i < shares[s].tables * part / 100 + 1; i++) {
@@ -227,6 +267,8 @@ int main(int argc, char **argv) {
                 rearranged_table(q);
             } else if (i % 8 == 1) {
                 short_table(q);
+            } else if (i % 8 == 2) {
+                table_at_edge(q);
             } else {
                 damaged_table(q);
             }
