@@ -33,32 +33,30 @@ function pair(what,    r) {
     }
     print ""
 }
+
 END {
     print "## Targets\n"
     print "| target | measured |"
     print "|---|---|"
-    if (median[at(1, "run", "archive")]) {
-        print "| a run, net of its check, at most 1.3 times the C program | " worst("run", "archive/C", 1.3) " |"
-        print "| a run faster than HL-HITTERS on Boost | archive / Boost: " worst("run", "archive/Boost", 1) " |"
-    }
+    print "| a run, net of its check, at most 1.3 times the C program | " worst("run", "archive/C", 1.3) " |"
+    print "| a run faster than HL-HITTERS on Boost | archive / Boost: " worst("run", "archive/Boost", 1) " |"
     print "| the check at most 1.5 times the C program's | " worst("check", "archive/C", 1.5) " |"
     print ""
     print "## Run: one command\n"
-    print "Nanoseconds and instructions for one command of a run, net of the check that the run makes first.\n"
-    if (median[at(1, "run", "archive")]) {
-        print "| Q | mix | archive ns | C ns | Boost ns | direct counting ns | archive / C | archive / Boost | archive instructions | C instructions | Boost instructions |"
-        print "|---|---|---|---|---|---|---|---|---|---|---|"
-        for (r = 1; r <= rows; r++) {
-            printf "| %s | %s | %s | %s | %s | %s | %s | %s | %.0f | %.0f | %.0f |\n", q[r], mix[r], ns(r, "run", "archive"), ns(r, "run", "C"), ns(r, "run", "Boost"), ns(r, "run", "direct"),
-                between(r, "run", "archive/C"), between(r, "run", "archive/Boost"), net(r, "archive"), net(r, "C"), count[at(r, "run", "Boost")]
-        }
-    } else {
-        print "| Q | mix | C ns | Boost ns | direct counting ns | Boost / C | C instructions | Boost instructions |"
-        print "|---|---|---|---|---|---|---|---|"
-        for (r = 1; r <= rows; r++) {
-            printf "| %s | %s | %s | %s | %s | %s | %.0f | %.0f |\n", q[r], mix[r], ns(r, "run", "C"), ns(r, "run", "Boost"), ns(r, "run", "direct"), between(r, "run", "Boost/C"),
-                net(r, "C"), count[at(r, "run", "Boost")]
-        }
+    print "One command of a run, net of the check that the run makes first.\n"
+    print "| Q | mix | archive ns | C ns | Boost ns | direct ns | archive / C | archive / Boost |"
+    print "|---|---|---|---|---|---|---|---|"
+    for (r = 1; r <= rows; r++) {
+        printf "| %s | %s | %s | %s | %s | %s | %s | %s |\n", q[r], mix[r], ns(r, "run", "archive"), ns(r, "run", "C"), ns(r, "run", "Boost"), ns(r, "run", "direct"),
+            between(r, "run", "archive/C"), between(r, "run", "archive/Boost")
+    }
+    print "\nInstructions for the same:\n"
+    print "| Q | mix | archive | C | Boost | direct | archive / C | archive / Boost |"
+    print "|---|---|---|---|---|---|---|---|"
+    for (r = 1; r <= rows; r++) {
+        boost = count[at(r, "run", "Boost")]
+        printf "| %s | %s | %.0f | %.0f | %.0f | %.0f | %.2f | %.2f |\n", q[r], mix[r], net(r, "archive"), net(r, "C"), boost, count[at(r, "run", "direct")],
+            net(r, "archive") / net(r, "C"), net(r, "archive") / boost
     }
     print "\n## Check\n"
     print "One count of an absent client: the check of the whole table, and a lookup that finds nobody.\n"
