@@ -149,11 +149,7 @@ static void compare_ticket(struct lent *l, const struct model *m, uint32_t refus
 }
 
 #ifdef WITH_RUN
-static void compare_run(struct lent *l, struct model *m, uint32_t refused, const struct ask *ask) {
-    struct tally a = {0};
-    a.stop = refused;
-    a = refused ? a : model_run(m, ask->commands, ask->bytes, ask->budget);
-    struct boomspool_report r = boomspool_run(l->room + GUARD, l->words, ask->commands, ask->bytes, ask->budget);
+static void compare_report(struct boomspool_ran r, struct tally a) {
     same("run: stop", r.stop, a.stop);
     same("run: done", r.done, a.done);
     same("run: joined", r.joined, a.joined);
@@ -162,6 +158,32 @@ static void compare_run(struct lent *l, struct model *m, uint32_t refused, const
     same("run: served", r.served, a.served);
     same("run: turned", r.turned, a.turned);
     same("run: idle", r.idle, a.idle);
+}
+
+static void compare_day(const struct boomspool_day *ours, const struct day *d) {
+    same("day: joined", ours->joined, d->joined);
+    same("day: evicted", ours->evicted, d->evicted);
+    same("day: passed", ours->passed, d->passed);
+    same("day: served", ours->served, d->served);
+    same("day: turned", ours->turned, d->turned);
+    same("day: idle", ours->idle, d->idle);
+}
+
+/* With and without a day record. */
+static void compare_run(struct lent *l, struct model *m, uint32_t refused, const struct ask *ask) {
+    struct tally a = {0};
+    uint32_t *t = l->room + GUARD;
+    a.stop = refused;
+    a = refused ? a : model_run(m, ask->commands, ask->bytes, ask->budget);
+    if (ask->call == RUN) {
+        compare_report(boomspool_run(t, l->words, ask->commands, ask->bytes, ask->budget), a);
+    } else {
+        struct day d = ask->day;
+        struct boomspool_day ours = {d.joined, d.evicted, d.passed, d.served, d.turned, d.idle};
+        model_bring_up(&d, &a);
+        compare_report(boomspool_run_day(t, l->words, ask->commands, ask->bytes, ask->budget, &ours), a);
+        compare_day(&ours, &d);
+    }
     sums.stops[a.stop]++;
     sums.commands_in_runs += a.done;
     if (a.joined + a.served == 0) {

@@ -10,7 +10,7 @@ enum { GUARD = 8, MOST_SLACK = 4, MOST_OUT_WORDS = 2 * LARGEST_Q + 8 };
 /* A table as it is lent: guard words on both sides of the words, which may be more than the table's. */
 struct lent { size_t words; uint32_t room[GUARD + MOST_WORDS + MOST_SLACK + GUARD]; };
 
-enum call { ARRIVE, SLIDE, SERVE, HEAVIEST, LIGHTEST, COUNT, OLDEST, NEWEST, RUN, CALLS };
+enum call { ARRIVE, SLIDE, SERVE, HEAVIEST, LIGHTEST, COUNT, OLDEST, NEWEST, RUN, RUN_DAY, CALLS };
 
 struct ask {
     enum call call;
@@ -19,6 +19,7 @@ struct ask {
     const uint8_t *commands;
     size_t bytes;
     uint64_t budget;
+    struct day day;
 };
 
 /* Where a difference is found: printed with it. */

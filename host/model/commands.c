@@ -200,6 +200,9 @@ static size_t write_commands(const struct mix *mix, uint8_t *bytes, size_t n, si
     return COMMAND_BYTES * n + (below(&dice, 2) ? below(&dice, COMMAND_BYTES) : 0);
 }
 
+/* Totals of a day so far: small, large, or at the end. */
+static uint64_t choose_total(void) { return below(&dice, 3) ? below(&dice, 1000) : UINT64_MAX - below(&dice, 200); }
+
 static void runs(const struct share *share, const struct mix *mix, size_t n, uint64_t seed, size_t times) {
     static uint8_t bytes[COMMAND_BYTES * (RUN_COMMANDS + 1)];
     begin("runs", mix, seed, share->q, n);
@@ -207,7 +210,8 @@ static void runs(const struct share *share, const struct mix *mix, size_t n, uin
         struct ask ask = {0};
         size_t length = below(&dice, 3) ? below(&dice, RUN_COMMANDS) : below(&dice, 8);
         place.step = step;
-        ask.call = RUN;
+        ask.call = below(&dice, 2) ? RUN : RUN_DAY;
+        ask.day = (struct day){choose_total(), choose_total(), choose_total(), choose_total(), choose_total(), choose_total()};
         ask.bytes = write_commands(mix, bytes, length, below(&dice, 4) ? 100 * RUN_COMMANDS : 20);
         ask.commands = bytes;
         const uint64_t budgets[] = {UINT64_MAX, length, length + 1, length / 2, below(&dice, 10)};
@@ -258,13 +262,14 @@ static void report(void) {
         questions += sums.calls[c];
     }
     printf("commands: %" PRIu64 " single (arrive %" PRIu64 ", slide %" PRIu64 ", serve %" PRIu64 "), %" PRIu64 " in %" PRIu64 " runs; no difference\n",
-           steps, sums.calls[ARRIVE], sums.calls[SLIDE], sums.calls[SERVE], sums.commands_in_runs, sums.calls[RUN]);
+           steps, sums.calls[ARRIVE], sums.calls[SLIDE], sums.calls[SERVE], sums.commands_in_runs, sums.calls[RUN] + sums.calls[RUN_DAY]);
     printf("  single steps: joined %" PRIu64 ", evicted %" PRIu64 ", turned away %" PRIu64 ", passed %" PRIu64 ", served %" PRIu64 ", at most %" PRIu64 " words altered\n",
            sums.events[JOINED], sums.events[EVICTED], sums.events[TURNED_AWAY], sums.events[PASSED], sums.events[SERVED], sums.most_altered);
     printf("  questions: %" PRIu64 " (heaviest %" PRIu64 ", lightest %" PRIu64 ", count %" PRIu64 ", oldest %" PRIu64 ", newest %" PRIu64 "); refused 4: %" PRIu64 ", 5: %" PRIu64 ", 6: %" PRIu64 "\n",
            questions, sums.calls[HEAVIEST], sums.calls[LIGHTEST], sums.calls[COUNT], sums.calls[OLDEST], sums.calls[NEWEST], sums.numbers[4],
            sums.numbers[5], sums.numbers[6]);
-    printf("  runs stopped with 0: %" PRIu64 ", 1: %" PRIu64 ", 7: %" PRIu64 ", 8: %" PRIu64 "\n", sums.stops[0], sums.stops[1], sums.stops[7], sums.stops[8]);
+    printf("  runs stopped with 0: %" PRIu64 ", 1: %" PRIu64 ", 7: %" PRIu64 ", 8: %" PRIu64 "; %" PRIu64 " of them with a day record\n", sums.stops[0], sums.stops[1],
+           sums.stops[7], sums.stops[8], sums.calls[RUN_DAY]);
 }
 
 /* `part` in a hundred of the whole. */

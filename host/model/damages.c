@@ -116,6 +116,7 @@ static struct ask choose_ask(enum call call) {
     ask.commands = commands;
     ask.bytes = below(&dice, sizeof commands + 1);
     ask.budget = below(&dice, 6);
+    ask.day = (struct day){roll(&dice), 1, 2, 3, UINT64_MAX, UINT64_MAX - 1};
     return ask;
 }
 
@@ -132,8 +133,8 @@ static void compare_verdict(void) {
     struct ask question = choose_ask(HEAVIEST + (enum call)below(&dice, 5));
     compare_call(&lent, &model, refused, &question);
 #ifdef WITH_RUN
-    const enum call steps[] = {ARRIVE, SLIDE, SERVE, RUN};
-    struct ask step = choose_ask(steps[below(&dice, 4)]);
+    const enum call steps[] = {ARRIVE, SLIDE, SERVE, RUN, RUN_DAY};
+    struct ask step = choose_ask(steps[below(&dice, 5)]);
 #else
     struct ask step = choose_ask(ARRIVE + (enum call)below(&dice, 3));
 #endif
@@ -244,9 +245,9 @@ static void report(void) {
     for (size_t i = 0; i < CLAUSES && broken[i].clause; i++) {
         printf("%s %s %" PRIu64, i ? "," : "", broken[i].clause, broken[i].tables);
     }
-    printf("\n  refused: 2 %" PRIu64 ", 3 %" PRIu64 ", 4 %" PRIu64 ", 5 %" PRIu64 ", 6 %" PRIu64 "; calls", sums.numbers[2], sums.numbers[3], sums.numbers[4],
-           sums.numbers[5], sums.numbers[6]);
-    static const char *const names[CALLS] = {"arrive", "slide", "serve", "heaviest", "lightest", "count", "oldest", "newest", "run"};
+    printf("\n  refused: 2 %" PRIu64 ", 3 %" PRIu64 ", 4 %" PRIu64 ", 5 %" PRIu64 ", 6 %" PRIu64 "; calls", sums.numbers[2] + sums.stops[2],
+           sums.numbers[3] + sums.stops[3], sums.numbers[4], sums.numbers[5], sums.numbers[6]);
+    static const char *const names[CALLS] = {"arrive", "slide", "serve", "heaviest", "lightest", "count", "oldest", "newest", "run", "run with day record"};
     for (size_t c = 0; c < CALLS; c++) {
         printf(" %s %" PRIu64, names[c], sums.calls[c]);
     }

@@ -200,6 +200,17 @@ struct tally model_run(struct model *m, const uint8_t *commands, size_t bytes, u
     }
 }
 
+static void add(uint64_t *total, uint64_t more) { *total = more > UINT64_MAX - *total ? UINT64_MAX : *total + more; }
+
+void model_bring_up(struct day *day, const struct tally *sums) {
+    add(&day->joined, sums->joined);
+    add(&day->evicted, sums->evicted);
+    add(&day->passed, sums->passed);
+    add(&day->served, sums->served);
+    add(&day->turned, sums->turned);
+    add(&day->idle, sums->idle);
+}
+
 bool model_same(const struct model *a, const struct model *b) {
     if (a->places != b->places || a->requests != b->requests || a->clients != b->clients) {
         return false;

@@ -26,11 +26,16 @@ struct answer { uint32_t number; enum event event; struct request left; };
 /* What a run answers. */
 struct tally { uint32_t stop; uint64_t done, joined, evicted, passed, served, turned, idle; };
 
+/* The day record's totals. */
+struct day { uint64_t joined, evicted, passed, served, turned, idle; };
+
 void model_empty(struct model *m, size_t places);
 struct answer model_arrive(struct model *m, struct request r);
 struct answer model_slide(struct model *m, struct request r);
 struct answer model_serve(struct model *m);
 struct tally model_run(struct model *m, const uint8_t *commands, size_t bytes, uint64_t budget);
+/* Adds a run's totals to the day record; each stays at its largest value once there. */
+void model_bring_up(struct day *day, const struct tally *sums);
 
 size_t model_count(const struct model *m, uint32_t id);
 /* The ticket of a client's oldest or newest request; false for a client that does not wait. */
