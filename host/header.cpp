@@ -7,6 +7,8 @@ static_assert(sizeof(boomspool_served) == 12 && offsetof(boomspool_served, ticke
 static_assert(sizeof(boomspool_listed) == 16 && offsetof(boomspool_listed, pairs) == 8, "listed");
 static_assert(sizeof(boomspool_counted) == 8 && offsetof(boomspool_counted, count) == 4, "counted");
 static_assert(sizeof(boomspool_told) == 8 && offsetof(boomspool_told, ticket) == 4, "told");
+static_assert(sizeof(boomspool_ran) == 64 && offsetof(boomspool_ran, done) == 8 && offsetof(boomspool_ran, idle) == 56, "ran");
+static_assert(sizeof(boomspool_day) == 48 && offsetof(boomspool_day, idle) == 40, "day");
 
 int main()
 {

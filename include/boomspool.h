@@ -70,6 +70,36 @@ struct boomspool_told {
     uint32_t ticket;
 };
 
+/* Where a run stopped: the field `stop`. A run that is refused has BOOMSPOOL_SHORT or BOOMSPOOL_UNSOUND there. */
+enum boomspool_stop {
+    BOOMSPOOL_ALL_DONE = 0,     /* no bytes are left */
+    BOOMSPOOL_BUDGET_SPENT = 1, /* bytes are left, and as many commands as the budget were carried out */
+    BOOMSPOOL_CUT_SHORT = 7,    /* under 9 bytes are left */
+    BOOMSPOOL_BAD_COMMAND = 8   /* an unknown kind, or serve with an id or a ticket that is not 0 */
+};
+
+/* What a run reports. The command at which it stopped, counted from 0, is `done`. */
+struct boomspool_ran {
+    uint32_t stop;
+    uint64_t done;    /* commands carried out */
+    uint64_t joined;  /* requests that joined, by arrive or slide */
+    uint64_t evicted; /* requests that left for an arrival */
+    uint64_t passed;  /* requests that left by slide */
+    uint64_t served;  /* requests that left by serve */
+    uint64_t turned;  /* arrivals that were turned away */
+    uint64_t idle;    /* serves where nobody waited */
+};
+
+/* The host's day record: the totals of its runs, each of which stays at its largest value once there. */
+struct boomspool_day {
+    uint64_t joined;
+    uint64_t evicted;
+    uint64_t passed;
+    uint64_t served;
+    uint64_t turned;
+    uint64_t idle;
+};
+
 /* The words that a table of that many places takes, 16 + 16 * places; 0 where places is 0 or over 1,000.
  * It refuses nothing. */
 size_t boomspool_words(size_t places);
@@ -107,6 +137,15 @@ struct boomspool_told boomspool_oldest(const uint32_t *table, size_t words, uint
 
 /* The ticket of its newest waiting request. Refusals: 2, 3, 6. */
 struct boomspool_told boomspool_newest(const uint32_t *table, size_t words, uint32_t id);
+
+/* Carries out commands of 9 bytes, at most as many as the budget: kind (1 arrive, 2 slide, 3 serve), then id and ticket,
+ * lowest byte first, both 0 for serve. The table is checked once. Commands before the stop stand.
+ * Stops: 0, 1, 7, 8. Refusals: 2 and 3, with all other fields 0 and nothing written. */
+struct boomspool_ran boomspool_run(uint32_t *table, size_t words, const uint8_t *commands, size_t bytes, uint64_t budget);
+
+/* The same, and adds the six totals to the day record, which is no NULL. A run that is refused leaves it. */
+struct boomspool_ran boomspool_run_day(uint32_t *table, size_t words, const uint8_t *commands, size_t bytes, uint64_t budget,
+                                       struct boomspool_day *day);
 
 #ifdef __cplusplus
 }

@@ -11,10 +11,14 @@ ghost use Rattle.rules.specs.Verdict.{layOutNumber, laidOut, afterwards};
 ghost use Rattle.limiter.specs.Lent.{waitingIn, numbersOf};
 ghost use Rattle.limiter.specs.Questions.{listedAnswer, listedOut, listedNumber, countedAnswer, countedNumber, toldAnswer, toldNumber};
 ghost use Rattle.limiter.specs.Calls.{arriveChoice, arriveAnswer, arriveNumber, choiceValues, slideLeaves, slideAnswer, slideNumber, slideValues, serveAnswer, serveNumber, serveValues};
+ghost use Rattle.limiter.specs.Runs.{runAnswer, runWords};
+ghost use Rattle.day.specs.Totals.{addedTo};
 ghost use Rattle.boomspool.specs.Replies.{wordsOf, arrivedStruct, arrivedFields, slidStruct, slidFields, servedStruct, servedFields, listedStruct, listedFields, countedStruct, countedFields, toldStruct, toldFields};
+use day::Day;
 use limiter::Counted;
 use questions::Listed;
 use questions::Told;
+use run::Ran;
 use steps::Arrived;
 use steps::Served;
 use steps::Slid;
@@ -285,4 +289,30 @@ pub extern "C" fn boomspool_newest(t: &[u32], id: u32) -> BoomspoolTold
     ensures numbers { λ r. ⌜ toldFields r ≡ numbersOf (toldNumber id (now (t .entry))) (history.newestTicket (waitingIn (now (t .entry))) id ∷ []) ⌝ }
 {
     told_reply(limiter::newest(t, id))
+}
+
+// Carries out commands of nine bytes until one of the four stops; the table is checked once.
+#[no_mangle]
+pub extern "C" fn boomspool_run(t: &mut [u32], commands: &[u8], budget: u64) -> Ran
+    ensures reply { λ r. ⌜ r ≡ runAnswer budget (now (commands .entry)) (now (t .entry)) ⌝ }
+    ensures words { λ _. ⌜ now (t .exit) ≡ runWords budget (now (commands .entry)) (now (t .entry)) ⌝ }
+{
+    limiter::run(t, commands, budget)
+}
+
+// The same, and the day record is brought up to date where it stands.
+#[no_mangle]
+pub extern "C" fn boomspool_run_day(
+    t: &mut [u32],
+    commands: &[u8],
+    budget: u64,
+    day: &mut Day,
+) -> Ran
+    ensures reply { λ r. ⌜ r ≡ runAnswer budget (now (commands .entry)) (now (t .entry)) ⌝ }
+    ensures words { λ _. ⌜ now (t .exit) ≡ runWords budget (now (commands .entry)) (now (t .entry)) ⌝ }
+    ensures totals { λ _. ⌜ now (day .exit) ≡ addedTo (now (day .entry)) (runAnswer budget (now (commands .entry)) (now (t .entry))) ⌝ }
+{
+    let r = limiter::run(t, commands, budget);
+    day::bring_up(day, r);
+    r
 }

@@ -2,3 +2,4 @@
 pub mod Laws
 pub mod Calls
 pub mod After
+pub mod OneOutcome

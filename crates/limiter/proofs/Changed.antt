@@ -12,7 +12,7 @@ use Rattle.rules.specs.History as history
 use Rattle.rules.specs.Picture.{Picture, plain}
 use Rattle.rules.specs.Draw.{draw}
 use Rattle.rules.specs.Sound.{picture}
-use Rattle.rules.specs.Verdict.{room, verdict, afterwards}
+use Rattle.rules.specs.Verdict.{room, afterwards}
 use Rattle.steps.specs.Replies.{arrivedReply, slidReply, servedReply}
 use Rattle.steps.specs.declared.Arrived.{Arrived}
 use Rattle.steps.specs.declared.Arrived.the-variants as arrived
@@ -20,9 +20,9 @@ use Rattle.steps.specs.declared.Slid.{Slid}
 use Rattle.steps.specs.declared.Slid.the-variants as slid
 use Rattle.steps.specs.declared.Served.{Served}
 use Rattle.steps.specs.declared.Served.the-variants as served
-use Rattle.limiter.specs.Lent.{orRefused, refusalOf, numbersOf}
+use Rattle.limiter.specs.Lent.{orRefused, refusalOf, numbersOf, Opens}
 use Rattle.limiter.specs.Calls.{choiceValues, arrivedNumbers, slideValues, slidNumbers, idle, serveValues, servedNumbers}
-use Rattle.limiter.proofs.Lent.{refuses, answers, answer-numbers}
+use Rattle.limiter.proofs.Lent.{part-size, refuses, answers, answer-numbers}
 
 -- words that follow both lists alter nothing
 altered-before : (xs ys zs : List ℕ) → length ys ≡ length xs → altered (xs ++ zs) (ys ++ zs) ≡ altered xs ys
@@ -48,35 +48,35 @@ Promises K step few t r after =
     (r ≡ orRefused (K .refused) t (K .reply P))
     × ((K .numbers r ≡ numbersOf (refusalOf t (K .own P)) (K .values P)) × ((after ≡ afterwards step t) × (altered t after ≤ few)))
 
--- the verdict v, as the code has it
-module _ {A : Type 0} (K : Call A) (step : Picture → Picture) (few : ℕ) (t : List ℕ) {v : ℕ} (is : v ≡ verdict t) where
+-- how the call opened: the words after a step, and after none
+module _ (step : Picture → Picture) (t : List ℕ) {v places words : ℕ} (o : Opens t v places words) where
+  pub unchanged : (v ≡ 0 → ⊥) → t ≡ afterwards step t
+  unfolding afterwards
+  unchanged some = refuses t o (λ _. t) (draw (step (picture (take (room t) t))) ++ drop (room t) t) some
+
+  pub changed : v ≡ 0 → {l : List ℕ} → l ≡ draw (step (picture (take words t))) → l ++ drop words t ≡ afterwards step t
+  unfolding afterwards
+  changed none e = rw (← o .is, none, e, part-size t o none)
+
+module _ {A : Type 0} (K : Call A) (step : Picture → Picture) (few : ℕ) (t : List ℕ) {v places words : ℕ} (o : Opens t v places words) where
   in-numbers : {r : A} → r ≡ orRefused (K .refused) t (K .reply (picture (take (room t) t)))
       → K .numbers r ≡ numbersOf (refusalOf t (K .own (picture (take (room t) t)))) (K .values (picture (take (room t) t)))
   in-numbers =
       let P : Picture = picture (take (room t) t) in
       answer-numbers (K .numbers) (K .refused) (K .values P) (λ n. K .none n P) t (K .own P) (K .given P)
 
-  unchanged : (v ≡ 0 → ⊥) → t ≡ afterwards step t
-  unfolding afterwards
-  unchanged some = refuses t is (λ _. t) (draw (step (picture (take (room t) t))) ++ drop (room t) t) some
-
   pub call-refuses : (v ≡ 0 → ⊥) → Promises K step few t (K .refused v) t
   call-refuses some =
-      let a = refuses t is (K .refused) (K .reply (picture (take (room t) t))) some in
-      (a, (in-numbers a, (unchanged some, omega (arith, altered-same t))))
+      let a = refuses t o (K .refused) (K .reply (picture (take (room t) t))) some in
+      (a, (in-numbers a, (unchanged step t o some, omega (arith, altered-same t))))
 
-  module _ (none : v ≡ 0) {need : ℕ} (size : need ≡ room t) where
-    changed : {l : List ℕ} → l ≡ draw (step (picture (take need t))) → l ++ drop need t ≡ afterwards step t
-    unfolding afterwards
-    changed e = rw (← is, none, e, size)
-
-    pub call-answers : {r : A} {l : List ℕ} → r ≡ K .reply (picture (take need t)) → l ≡ draw (step (picture (take need t)))
-        → altered (take need t) l ≤ few → length l ≡ length (take need t) → Promises K step few t r (l ++ drop need t)
-    call-answers {l = l} e w n same =
-        let a = answers t is none size (K .refused) (K .reply) e in
-        let f : altered t (l ++ drop need t) ≤ few =
-        subst (λ (x : List ℕ). altered x (l ++ drop need t) ≤ few) (take-append-drop need t) (rw (altered-before (take need t) l (drop need t) same) n) in
-        (a, (in-numbers a, (changed w, f)))
+  pub call-answers : v ≡ 0 → {r : A} {l : List ℕ} → r ≡ K .reply (picture (take words t)) → l ≡ draw (step (picture (take words t)))
+      → altered (take words t) l ≤ few → length l ≡ length (take words t) → Promises K step few t r (l ++ drop words t)
+  call-answers none {l = l} e w n same =
+      let a = answers t o none (K .refused) (K .reply) e in
+      let f : altered t (l ++ drop words t) ≤ few =
+      subst (λ (x : List ℕ). altered x (l ++ drop words t) ≤ few) (take-append-drop words t) (rw (altered-before (take words t) l (drop words t) same) n) in
+      (a, (in-numbers a, (changed step t o none w, f)))
 
 -- the three calls
 pub none-chosen : (v : ℕ) (c : Choice) → arrivedNumbers (arrived.Refused v) ≡ v ∷ map (λ _. 0) (choiceValues c)

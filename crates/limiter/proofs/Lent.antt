@@ -6,7 +6,7 @@ use Prim.Native.Nat.{ℕ, _≤_}
 use native.Mathlib.Omega.{arith}
 use lib.Dec.{eqb}
 use lib.ListN.{length, getD, take}
-use lib.Seq.{getD-take}
+use lib.Seq.{getD-take, length-take-le}
 use borrow.Author.Tests.{ltb-false, ne-eqb}
 use Rattle.table.specs.Kind as kind
 use Rattle.rules.specs.Picture.{Picture}
@@ -14,7 +14,7 @@ use Rattle.rules.specs.Sound.{picture}
 use Rattle.rules.specs.Ready.{Ready}
 use Rattle.rules.specs.Verdict.{room, verdict}
 use Rattle.rules.proofs.Decide.{_&_, eqb-decides, range-decides}
-use Rattle.limiter.specs.Lent.{orRefused, refusalOf, numbersOf}
+use Rattle.limiter.specs.Lent.{orRefused, refusalOf, numbersOf, Opens}
 
 -- every test of a verdict of 0 passed
 passed : (a b c d : Bool) → _≡_ {A = ℕ} (cond a 2 (cond b (cond c 2 (cond d 0 3)) 3)) 0 → ((a ≡ false) × (b ≡ true)) × ((c ≡ false) × (d ≡ true))
@@ -47,25 +47,27 @@ accepted t e =
       ready = record { sound = s; size = shown-size (take (room t) t) ∙ getD-take (room t) t kind.sizeAt 0 (omega arith) };
     }
 
--- the verdict v, as the code has it
-module _ (t : List ℕ) {v : ℕ} (is : v ≡ verdict t) where
+-- how the call opened
+module _ (t : List ℕ) {v places words : ℕ} (o : Opens t v places words) where
   pub refuses : {A : Type 0} (refused : ℕ → A) (a : A) → (v ≡ 0 → ⊥) → refused v ≡ orRefused refused t a
-  refuses refused a n = rw (← is, ne-eqb v 0 n)
+  refuses refused a n = rw (← o .is, ne-eqb v 0 n)
 
+  -- the part of the words that is the table
   module _ (none : v ≡ 0) where
-    pub accepts : Accepted t
-    accepts = accepted t (sym none ∙ is)
+    pub part-size : words ≡ room t
+    part-size = o .shown none .1
 
-    -- the part of the words that is the table
-    module _ {need : ℕ} (size : need ≡ room t) where
-      pub part-fits : need ≤ length t
-      part-fits = rw size (accepts .long)
+    pub part-fits : words ≤ length t
+    part-fits = rw part-size (accepted t (sym none ∙ o .is) .long)
 
-      pub part-ready : Ready (getD t kind.sizeAt 0) (take need t)
-      part-ready = rw size (accepts .ready)
+    pub part-long : words ≡ length (take words t)
+    part-long = sym (length-take-le words t part-fits)
 
-      pub answers : {A : Type 0} (refused : ℕ → A) (answer : Picture → A) {r : A} → r ≡ answer (picture (take need t)) → r ≡ orRefused refused t (answer (picture (take (room t) t)))
-      answers refused answer e = rw (← is, none) (e ∙ ap (λ (n : ℕ). answer (picture (take n t))) size)
+    pub part-ready : Ready places (take words t)
+    part-ready = rw (o .shown none .0, part-size) (accepted t (sym none ∙ o .is) .ready)
+
+    pub answers : {A : Type 0} (refused : ℕ → A) (answer : Picture → A) {r : A} → r ≡ answer (picture (take words t)) → r ≡ orRefused refused t (answer (picture (take (room t) t)))
+    answers refused answer e = rw (← o .is, none) (e ∙ ap (λ (n : ℕ). answer (picture (take n t))) part-size)
 
 -- document 01's numbers of an answer, from those of the answer of a table that is not refused
 module _ {A : Type 0} (numbers : A → List ℕ) (refused : ℕ → A) (values : List ℕ) (by : (v : ℕ) → numbers (refused v) ≡ v ∷ map (λ _. 0) values) where

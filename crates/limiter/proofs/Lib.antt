@@ -3,3 +3,4 @@ pub mod Lent
 pub mod Questions
 pub mod Changed
 pub mod Sharing
+pub mod OneOutcome

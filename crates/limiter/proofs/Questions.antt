@@ -9,7 +9,7 @@ use Rattle.rules.specs.Rows.{has}
 use Rattle.rules.specs.History.{Waiting, given, countOf}
 use Rattle.rules.specs.Picture.{plain}
 use Rattle.rules.specs.Sound.{picture}
-use Rattle.rules.specs.Verdict.{room, verdict}
+use Rattle.rules.specs.Verdict.{room}
 use Rattle.questions.specs.Replies.{needed, listedReply, listedWords, toldReply}
 use Rattle.questions.specs.declared.Listed.{Listed}
 use Rattle.questions.specs.declared.Listed.the-variants as listed
@@ -17,7 +17,7 @@ use Rattle.questions.specs.declared.Told.{Told}
 use Rattle.questions.specs.declared.Told.the-variants as told
 use Rattle.limiter.specs.declared.Counted.{Counted}
 use Rattle.limiter.specs.declared.Counted.the-variants as counted
-use Rattle.limiter.specs.Lent.{waitingIn, numbersOf}
+use Rattle.limiter.specs.Lent.{waitingIn, numbersOf, Opens}
 use Rattle.limiter.specs.Questions.{listedAnswer, listedOut, listedNumber, listedNumbers, countedAnswer, countedNumber, countedNumbers, toldAnswer, toldNumber, toldNumbers}
 use Rattle.limiter.proofs.Lent.{refuses, answers, answer-numbers}
 
@@ -54,32 +54,32 @@ told-numbers ticket i t =
     go x true = refl
     go x false = refl
 
--- the verdict v, as the code has it
-module _ (t : List ℕ) {v : ℕ} (is : v ≡ verdict t) where
+-- how the call opened
+module _ (t : List ℕ) {v places words : ℕ} (o : Opens t v places words) where
   module _ (some : v ≡ 0 → ⊥) where
     pub listing-refuses : (listing : ℕ → Waiting → List ℕ) (k : ℕ) (out : List ℕ) → Listing listing k t out (listed.Refused v) out
     listing-refuses listing k out =
-        let a = refuses t is listed.Refused (listedReply k (length out) (waitingIn t)) some in
-        (a, (listed-numbers k (length out) t a, refuses t is (λ _. out) (listedWords listing k (waitingIn t) out) some))
+        let a = refuses t o listed.Refused (listedReply k (length out) (waitingIn t)) some in
+        (a, (listed-numbers k (length out) t a, refuses t o (λ _. out) (listedWords listing k (waitingIn t) out) some))
 
     pub count-refuses : (i : ℕ) → Counting i t (counted.Refused v)
-    count-refuses i = let a = refuses t is counted.Refused (counted.Number (countOf (waitingIn t) i)) some in (a, counted-numbers i t a)
+    count-refuses i = let a = refuses t o counted.Refused (counted.Number (countOf (waitingIn t) i)) some in (a, counted-numbers i t a)
 
     pub ticket-refuses : (ticket : Waiting → ℕ → ℕ) (i : ℕ) → Telling ticket i t (told.Refused v)
-    ticket-refuses ticket i = let a = refuses t is told.Refused (toldReply ticket (waitingIn t) i) some in (a, told-numbers ticket i t a)
+    ticket-refuses ticket i = let a = refuses t o told.Refused (toldReply ticket (waitingIn t) i) some in (a, told-numbers ticket i t a)
 
-  module _ (none : v ≡ 0) {need : ℕ} (size : need ≡ room t) where
+  module _ (none : v ≡ 0) where
     pub listing-answers : (listing : ℕ → Waiting → List ℕ) (k : ℕ) (out : List ℕ) {r : Listed} {after : List ℕ}
-        → r ≡ listedReply k (length out) (plain (picture (take need t))) → after ≡ listedWords listing k (plain (picture (take need t))) out
+        → r ≡ listedReply k (length out) (plain (picture (take words t))) → after ≡ listedWords listing k (plain (picture (take words t))) out
         → Listing listing k t out r after
     listing-answers listing k out e w =
-        let a = answers t is none size listed.Refused (λ P. listedReply k (length out) (plain P)) e in
-        (a, (listed-numbers k (length out) t a, answers t is none size (λ _. out) (λ P. listedWords listing k (plain P) out) w))
+        let a = answers t o none listed.Refused (λ P. listedReply k (length out) (plain P)) e in
+        (a, (listed-numbers k (length out) t a, answers t o none (λ _. out) (λ P. listedWords listing k (plain P) out) w))
 
-    pub count-answers : (i : ℕ) {n : ℕ} → n ≡ countOf (plain (picture (take need t))) i → Counting i t (counted.Number n)
+    pub count-answers : (i : ℕ) {n : ℕ} → n ≡ countOf (plain (picture (take words t))) i → Counting i t (counted.Number n)
     count-answers i e =
-        let a = answers t is none size counted.Refused (λ P. counted.Number (countOf (plain P) i)) (ap counted.Number e) in
+        let a = answers t o none counted.Refused (λ P. counted.Number (countOf (plain P) i)) (ap counted.Number e) in
         (a, counted-numbers i t a)
 
-    pub ticket-answers : (ticket : Waiting → ℕ → ℕ) (i : ℕ) {r : Told} → r ≡ toldReply ticket (plain (picture (take need t))) i → Telling ticket i t r
-    ticket-answers ticket i e = let a = answers t is none size told.Refused (λ P. toldReply ticket (plain P) i) e in (a, told-numbers ticket i t a)
+    pub ticket-answers : (ticket : Waiting → ℕ → ℕ) (i : ℕ) {r : Told} → r ≡ toldReply ticket (plain (picture (take words t))) i → Telling ticket i t r
+    ticket-answers ticket i e = let a = answers t o none told.Refused (λ P. toldReply ticket (plain P) i) e in (a, told-numbers ticket i t a)

@@ -7,7 +7,7 @@ use Prim.Native.Nat.{ℕ, zero, suc, _+_, _*_, _≤_, _<_}
 use native.Mathlib.Omega.{arith}
 use native.Mathlib.Nat.{mul-suc, zero-mul, not-suc-le-zero}
 use lib.Dec.{eqb, leb}
-use lib.ListN.{length, take}
+use lib.ListN.{length, getD, take}
 use borrow.Author.Tests.{eqb-true, eqb-false, leb-true}
 use Rattle.rules.specs.Rows.{In, All, Rising, lastOr}
 use Rattle.rules.specs.History.{Request, Waiting, Choice, joined, evicted, turned, count, newest, heaviestClient, largestCount, full, choice}
@@ -17,8 +17,12 @@ use Rattle.rules.specs.Verdict.{room, verdict}
 use Rattle.rules.proofs.Plain.{clients-plain}
 use Rattle.rules.proofs.Ready.{ready-right}
 use Rattle.rules.proofs.Right.{clients-distinct}
+use Rattle.steps.specs.Replies.{arrivedReply}
+use Rattle.steps.specs.declared.Request as struct
+use Rattle.steps.specs.declared.Arrived.{Arrived}
+use Rattle.steps.specs.declared.Arrived.the-variants as arrived
 use Rattle.limiter.specs.Lent.{waitingIn}
-use Rattle.limiter.specs.Calls.{placesIn, arriveChoice}
+use Rattle.limiter.specs.Calls.{placesIn, arriveChoice, arriveAnswer, arrivedNumbers}
 use Rattle.limiter.proofs.Lent.{accepted}
 
 -- the requests of the clients in a list, all together
@@ -127,6 +131,23 @@ rises-so : (f g : ℕ → ℕ) (m : ℕ) (cs : List Client) → All (λ c. g (c 
 rises-so f g m [] a u = tt
 rises-so f g m (c ∷ cs) a u = rw (a .0) (u .0, rises-so f g (f (c .row)) cs (a .1) (u .1))
 
+-- what a reply says of the choice, in document 01's numbers: which of the three happened, and whose request left
+abbrev happened : Arrived → ℕ
+happened r = getD (arrivedNumbers r) 1 0
+
+abbrev leaver : Arrived → ℕ
+leaver r = getD (arrivedNumbers r) 2 0
+
+says-turned : (c : Choice) → happened (arrivedReply c) ≡ 3 → c ≡ turned
+says-turned joined e = absurd (omega arith)
+says-turned (evicted r) e = absurd (omega arith)
+says-turned turned e = refl
+
+says-evicted : (i : ℕ) (c : Choice) → ((r : Request) → c ≡ evicted r → r .id ≡ i → ⊥) → happened (arrivedReply c) ≡ 2 → leaver (arrivedReply c) ≡ i → ⊥
+says-evicted i joined never e f = omega arith
+says-evicted i (evicted r) never e f = never r refl f
+says-evicted i turned never e f = omega arith
+
 -- on lent words that are not refused: a light client is not turned away, and whoever arrives evicts no request of it
 module _ (t : List ℕ) (i : ℕ) (sound : 0 ≡ verdict t) (light : count i (waitingIn t .window) * length (waitingIn t .order) < placesIn t) where
   abbrev lent : Picture
@@ -149,3 +170,20 @@ module _ (t : List ℕ) (i : ℕ) (sound : 0 ≡ verdict t) (light : count i (wa
 
   pub light-not-evicted : (j : ℕ) (r : Request) → arriveChoice j t ≡ evicted r → r .id ≡ i → ⊥
   light-not-evicted = not-evicted (waitingIn t) (placesIn t) i known rises light
+
+  -- the same of the reply that arrive promises, as a case and in numbers
+  chosen : (j : ℕ) {r : Arrived} → r ≡ arriveAnswer j t → r ≡ arrivedReply (arriveChoice j t)
+  chosen j e = rw (← sound) at e
+
+  pub numbers-not-turned : {r : Arrived} → r ≡ arriveAnswer i t → getD (arrivedNumbers r) 1 0 ≡ 3 → ⊥
+  numbers-not-turned p e = light-not-turned (says-turned (arriveChoice i t) (sym (ap happened (chosen i p)) ∙ e))
+
+  pub numbers-not-evicted : (j : ℕ) {r : Arrived} → r ≡ arriveAnswer j t → getD (arrivedNumbers r) 1 0 ≡ 2 → getD (arrivedNumbers r) 2 0 ≡ i → ⊥
+  numbers-not-evicted j p e f =
+      says-evicted i (arriveChoice j t) (light-not-evicted j) (sym (ap happened (chosen j p)) ∙ e) (sym (ap leaver (chosen j p)) ∙ f)
+
+  pub reply-not-turned : {r : Arrived} → r ≡ arriveAnswer i t → r ≡ arrived.Turned → ⊥
+  reply-not-turned p e = numbers-not-turned p (ap happened e)
+
+  pub reply-not-evicted : (j : ℕ) {r : Arrived} (x : struct.Request) → r ≡ arriveAnswer j t → r ≡ arrived.Evicted x → x .id ≡ i → ⊥
+  reply-not-evicted j x p e f = numbers-not-evicted j p (ap happened e) (ap leaver e ∙ f)

@@ -1,9 +1,11 @@
 -- What every call reads from the words that it is lent, and its refusal by the verdict on them.
 use mathlib.Core.Bool.{cond}
 use mathlib.Core.List.{List, _∷_, map}
+use mathlib.Core.Path.{_≡_}
 use Prim.Native.Nat.{ℕ}
 use lib.Dec.{eqb}
-use lib.ListN.{take}
+use lib.ListN.{getD, take}
+use Rattle.table.specs.Kind as kind
 use Rattle.rules.specs.History.{Waiting}
 use Rattle.rules.specs.Picture.{plain}
 use Rattle.rules.specs.Sound.{picture}
@@ -24,3 +26,8 @@ refusalOf t own = orRefused (λ n. n) t own
 -- a reply in document 01's numbers: the refusal number, 0 for none, then the values, each 0 where there is none to give
 abbrev pub numbersOf : ℕ → List ℕ → List ℕ
 numbersOf refusal values = refusal ∷ cond (eqb refusal 0) values (map (λ _. 0) values)
+
+-- how a call opens: the verdict, and of a table that is not refused its places and its words
+pub record Opens (t : List ℕ) (number places words : ℕ) : Type 0 where
+  pub is : number ≡ verdict t
+  pub shown : number ≡ 0 → (places ≡ getD t kind.sizeAt 0) × (words ≡ room t)

@@ -2,3 +2,4 @@
 pub mod Lent
 pub mod Questions
 pub mod Calls
+pub mod Runs

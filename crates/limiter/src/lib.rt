@@ -1,5 +1,5 @@
 // The limiter's calls, as they are offered outside: none of them asks anything of what it is lent.
-// A call makes the spread table, takes the verdict on the lent words, and works in the part of them that is the table.
+// A call makes the spread table, opens the lent words, and works in the part of them that is the table.
 ghost use mathlib.Core.Path.{_≡_};
 ghost use mathlib.Core.List.{[], _∷_};
 ghost use Prim.Native.Nat.{_≤_};
@@ -7,12 +7,15 @@ ghost use lib.ListN.{length};
 ghost use Rattle.table.specs.Regions.{altered};
 ghost use Rattle.rules.specs.History as history;
 ghost use Rattle.rules.specs.Steps as steps;
+ghost use Rattle.rules.specs.Spread.{IsSpread};
 ghost use Rattle.rules.specs.Verdict.{afterwards};
-ghost use Rattle.limiter.specs.Lent.{waitingIn, numbersOf};
+ghost use Rattle.limiter.specs.Lent.{waitingIn, numbersOf, Opens};
 ghost use Rattle.limiter.specs.Questions.{listedAnswer, listedOut, listedNumber, listedNumbers, countedAnswer, countedNumber, countedNumbers, toldAnswer, toldNumber, toldNumbers};
 ghost use Rattle.limiter.specs.Calls.{arriveChoice, arriveAnswer, arriveNumber, choiceValues, arrivedNumbers, slideLeaves, slideAnswer, slideNumber, slideValues, slidNumbers, serveAnswer, serveNumber, serveValues, servedNumbers};
+ghost use Rattle.limiter.specs.Runs.{runAnswer, runWords};
 use questions::Listed;
 use questions::Told;
+use run::Ran;
 use steps::Arrived;
 use steps::Served;
 use steps::Slid;
@@ -24,6 +27,34 @@ pub enum Counted {
     Refused(u32),
 }
 
+// What a call finds in the words that it is lent: a refusal number; where that is 0, the table's places and words.
+struct Opened {
+    number: u32,
+    places: usize,
+    words: usize,
+}
+
+// How every call opens: the verdict on the lent words, and how many of them are the table.
+fn opening(t: &[u32], s: &[u32; 1024]) -> Opened
+    requires { ⌜ IsSpread (now s) ⌝ }
+    ensures { λ o. ⌜ Opens (now (t .entry)) (o .number) (o .places) (o .words) ⌝ }
+{
+    let v = verdict::of(t, s);
+    if v != 0 {
+        return Opened {
+            number: v,
+            places: 0,
+            words: 0,
+        };
+    }
+    let q = t[LinkedTable::SIZE_AT] as usize;
+    Opened {
+        number: 0,
+        places: q,
+        words: LinkedTable::size(q),
+    }
+}
+
 // Heaviest first: writes id and count of min(k, clients) clients.
 pub fn heaviest(t: &[u32], k: usize, out: &mut [u32]) -> Listed
     ensures reply { λ r. ⌜ r ≡ listedAnswer k (length (now (out .entry))) (now (t .entry)) ⌝ }
@@ -31,13 +62,12 @@ pub fn heaviest(t: &[u32], k: usize, out: &mut [u32]) -> Listed
     ensures words { λ _. ⌜ now (out .exit) ≡ listedOut history.heaviest k (now (t .entry)) (now (out .entry)) ⌝ }
 {
     let s = spread::table();
-    let v = verdict::of(t, &s);
-    if v != 0 {
-        return Listed::Refused(v);
+    let o = opening(t, &s);
+    if o.number != 0 {
+        return Listed::Refused(o.number);
     }
-    let q = t[LinkedTable::SIZE_AT] as usize;
-    let need = LinkedTable::size(q);
-    questions::heaviest(&t[..need], q, k, out)
+    let words = o.words;
+    questions::heaviest(&t[..words], o.places, k, out)
 }
 
 // Lightest first.
@@ -47,13 +77,12 @@ pub fn lightest(t: &[u32], k: usize, out: &mut [u32]) -> Listed
     ensures words { λ _. ⌜ now (out .exit) ≡ listedOut history.lightest k (now (t .entry)) (now (out .entry)) ⌝ }
 {
     let s = spread::table();
-    let v = verdict::of(t, &s);
-    if v != 0 {
-        return Listed::Refused(v);
+    let o = opening(t, &s);
+    if o.number != 0 {
+        return Listed::Refused(o.number);
     }
-    let q = t[LinkedTable::SIZE_AT] as usize;
-    let need = LinkedTable::size(q);
-    questions::lightest(&t[..need], q, k, out)
+    let words = o.words;
+    questions::lightest(&t[..words], o.places, k, out)
 }
 
 // How many requests of that client wait: 0 for an absent one.
@@ -62,13 +91,12 @@ pub fn count(t: &[u32], id: u32) -> Counted
     ensures numbers { λ r. ⌜ countedNumbers r ≡ numbersOf (countedNumber (now (t .entry))) (history.countOf (waitingIn (now (t .entry))) id ∷ []) ⌝ }
 {
     let s = spread::table();
-    let v = verdict::of(t, &s);
-    if v != 0 {
-        return Counted::Refused(v);
+    let o = opening(t, &s);
+    if o.number != 0 {
+        return Counted::Refused(o.number);
     }
-    let q = t[LinkedTable::SIZE_AT] as usize;
-    let need = LinkedTable::size(q);
-    Counted::Number(questions::count(&t[..need], q, &s, id))
+    let words = o.words;
+    Counted::Number(questions::count(&t[..words], o.places, &s, id))
 }
 
 // The ticket of that client's oldest request.
@@ -77,13 +105,12 @@ pub fn oldest(t: &[u32], id: u32) -> Told
     ensures numbers { λ r. ⌜ toldNumbers r ≡ numbersOf (toldNumber id (now (t .entry))) (history.oldestTicket (waitingIn (now (t .entry))) id ∷ []) ⌝ }
 {
     let s = spread::table();
-    let v = verdict::of(t, &s);
-    if v != 0 {
-        return Told::Refused(v);
+    let o = opening(t, &s);
+    if o.number != 0 {
+        return Told::Refused(o.number);
     }
-    let q = t[LinkedTable::SIZE_AT] as usize;
-    let need = LinkedTable::size(q);
-    questions::oldest(&t[..need], q, &s, id)
+    let words = o.words;
+    questions::oldest(&t[..words], o.places, &s, id)
 }
 
 // The ticket of its newest.
@@ -92,13 +119,12 @@ pub fn newest(t: &[u32], id: u32) -> Told
     ensures numbers { λ r. ⌜ toldNumbers r ≡ numbersOf (toldNumber id (now (t .entry))) (history.newestTicket (waitingIn (now (t .entry))) id ∷ []) ⌝ }
 {
     let s = spread::table();
-    let v = verdict::of(t, &s);
-    if v != 0 {
-        return Told::Refused(v);
+    let o = opening(t, &s);
+    if o.number != 0 {
+        return Told::Refused(o.number);
     }
-    let q = t[LinkedTable::SIZE_AT] as usize;
-    let need = LinkedTable::size(q);
-    questions::newest(&t[..need], q, &s, id)
+    let words = o.words;
+    questions::newest(&t[..words], o.places, &s, id)
 }
 
 // A request arrives: it joins, a request of the heaviest client leaves for it, or its client is turned away.
@@ -109,13 +135,12 @@ pub fn arrive(t: &mut [u32], id: u32, ticket: u32) -> Arrived
     ensures few { λ _. ⌜ altered (now (t .entry)) (now (t .exit)) ≤ 48 ⌝ }
 {
     let s = spread::table();
-    let v = verdict::of(t, &s);
-    if v != 0 {
-        return Arrived::Refused(v);
+    let o = opening(t, &s);
+    if o.number != 0 {
+        return Arrived::Refused(o.number);
     }
-    let q = t[LinkedTable::SIZE_AT] as usize;
-    let need = LinkedTable::size(q);
-    steps::arrive(&mut t[..need], q, &s, id, ticket)
+    let words = o.words;
+    steps::arrive(&mut t[..words], o.places, &s, id, ticket)
 }
 
 // A request joins; where the window is full, the front request leaves first.
@@ -126,13 +151,12 @@ pub fn slide(t: &mut [u32], id: u32, ticket: u32) -> Slid
     ensures few { λ _. ⌜ altered (now (t .entry)) (now (t .exit)) ≤ 48 ⌝ }
 {
     let s = spread::table();
-    let v = verdict::of(t, &s);
-    if v != 0 {
-        return Slid::Refused(v);
+    let o = opening(t, &s);
+    if o.number != 0 {
+        return Slid::Refused(o.number);
     }
-    let q = t[LinkedTable::SIZE_AT] as usize;
-    let need = LinkedTable::size(q);
-    steps::slide(&mut t[..need], q, &s, id, ticket)
+    let words = o.words;
+    steps::slide(&mut t[..words], o.places, &s, id, ticket)
 }
 
 // The front request leaves and is the reply; where nobody waits, no word alters.
@@ -143,11 +167,24 @@ pub fn serve(t: &mut [u32]) -> Served
     ensures few { λ _. ⌜ altered (now (t .entry)) (now (t .exit)) ≤ 24 ⌝ }
 {
     let s = spread::table();
-    let v = verdict::of(t, &s);
-    if v != 0 {
-        return Served::Refused(v);
+    let o = opening(t, &s);
+    if o.number != 0 {
+        return Served::Refused(o.number);
     }
-    let q = t[LinkedTable::SIZE_AT] as usize;
-    let need = LinkedTable::size(q);
-    steps::serve(&mut t[..need], q, &s)
+    let words = o.words;
+    steps::serve(&mut t[..words], o.places, &s)
+}
+
+// Carries out commands of nine bytes until one of the four stops; the table is checked once.
+pub fn run(t: &mut [u32], bytes: &[u8], budget: u64) -> Ran
+    ensures reply { λ r. ⌜ r ≡ runAnswer budget (now (bytes .entry)) (now (t .entry)) ⌝ }
+    ensures words { λ _. ⌜ now (t .exit) ≡ runWords budget (now (bytes .entry)) (now (t .entry)) ⌝ }
+{
+    let s = spread::table();
+    let o = opening(t, &s);
+    if o.number != 0 {
+        return run::refused(o.number);
+    }
+    let words = o.words;
+    run::run(&mut t[..words], o.places, &s, bytes, budget)
 }

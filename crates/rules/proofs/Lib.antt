@@ -19,7 +19,9 @@ pub mod Settle
 pub mod Moves
 pub mod Leaving
 pub mod Steps
+pub mod Run
 pub mod Moved
 pub mod Written
 pub mod Ready
+pub mod OneOutcome
 pub mod Cases

@@ -6,6 +6,7 @@ pub mod Spread
 pub mod Picture
 pub mod Steps
 pub mod Commands
+pub mod Run
 pub mod Draw
 pub mod Linked
 pub mod Sound

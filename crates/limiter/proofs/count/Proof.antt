@@ -1,57 +1,35 @@
 -- A table that is not refused is ready, so the count is of what it shows. Assumes nothing.
-use native.Mathlib.Omega.{arith}
-use mathlib.Core.Path.{sym}
-use lib.Seq.{length-take-le}
-use Rattle.table.specs.Kind as kind
-use borrow.Author.Needs.{needs}
-use Rattle.limiter.proofs.Lent.{accepts, part-fits, part-ready}
+use Rattle.limiter.proofs.Lent.{part-long, part-ready}
 use Rattle.limiter.proofs.Questions.{count-refuses, count-answers}
+use borrow.Author.Needs.{needs}
 use Rattle.limiter.proofs.count.Statement.{statement}
 use Rattle.limiter.proofs.count.Tie as tie
 
 table-requires : tie.Need-table-requires
 table-requires c κs = search needs
 
-of-requires : tie.Need-of-requires
-of-requires c κs = search needs
+opening-requires : tie.Need-opening-requires
+opening-requires c κs = search needs
 
 returns : tie.Need-returns
-returns c = count-refuses _ (c .before .of .ensures) (c .if1 .taken) _
-
-shared-slice-read-q : tie.Need-shared-slice-read-q
-shared-slice-read-q c = omega (arith, accepts _ (c .before .before .of .ensures) (c .before .if1 .left) .header)
-
-cast-q : tie.Need-cast-q
-cast-q c = omega (arith, c .shared-slice-known2 .given kind.sizeAt)
-
-size-requires : tie.Need-size-requires
-size-requires c κs = accepts _ (c .before .before .of .ensures) (c .before .if1 .left) .most
+returns c = count-refuses _ (c .before .before .opening .ensures) (c .if1 .taken) _
 
 slice-aggregate-count : tie.Need-slice-aggregate-count
-slice-aggregate-count c =
-    let z = c .before in
-    sym (length-take-le _ _ (part-fits _ (z .before .before .before .of .ensures) (z .before .before .if1 .left) (z .size .ensures)))
+slice-aggregate-count c = let i = c .before in part-long _ (i .before .before .opening .ensures) (i .if1 .left)
 
 count-requires : tie.Need-count-requires
-count-requires c κs =
-    let z = c .before .before in
-    (part-ready _ (z .before .before .before .of .ensures) (z .before .before .if1 .left) (z .size .ensures), search needs)
+count-requires c κs = let i = c .before .before in (part-ready _ (i .before .before .opening .ensures) (i .if1 .left), search needs)
 
 returns-2 : tie.Need-returns-2
-returns-2 c =
-    let z = c .before .before .before in
-    count-answers _ (z .before .before .before .of .ensures) (z .before .before .if1 .left) (z .size .ensures) _ (c .count .ensures)
+returns-2 c = let i = c .before .before .before in count-answers _ (i .before .before .opening .ensures) (i .if1 .left) _ (c .count .ensures)
 
 pub count-spec : {M : Type 1} → statement M
 count-spec =
     tie.close
     (tie.spec
     table-requires
-    of-requires
+    opening-requires
     returns
-    shared-slice-read-q
-    cast-q
-    size-requires
     slice-aggregate-count
     count-requires
     returns-2)

@@ -1,50 +1,33 @@
 -- A table that is not refused is ready, so the step is on what it shows; a refused one is left as it was. Assumes nothing.
-use native.Mathlib.Omega.{arith}
-use mathlib.Core.Path.{sym}
-use lib.Seq.{length-take-le}
-use Rattle.table.specs.Kind as kind
 use Rattle.rules.specs.Steps as steps
-use borrow.Author.Needs.{needs}
-use Rattle.limiter.proofs.Lent.{accepts, part-fits, part-ready}
+use Rattle.limiter.proofs.Lent.{part-fits, part-long, part-ready}
 use Rattle.limiter.proofs.Changed.{sliding, call-refuses, call-answers}
+use borrow.Author.Needs.{needs}
 use Rattle.limiter.proofs.slide.Statement.{statement}
 use Rattle.limiter.proofs.slide.Tie as tie
 
 table-requires : tie.Need-table-requires
 table-requires c κs = search needs
 
-of-requires : tie.Need-of-requires
-of-requires c κs = search needs
+opening-requires : tie.Need-opening-requires
+opening-requires c κs = search needs
 
 same-length : tie.Need-same-length
 same-length c = search needs
 
 returns : tie.Need-returns
 returns c =
-    let args = c .before .before .before .before .before .before .args in
-    call-refuses sliding (λ P. steps.slid P (args .id) (args .ticket)) 48 _ (c .before .of .ensures) (c .if1 .taken)
-
-slice-read-q : tie.Need-slice-read-q
-slice-read-q c = omega (arith, accepts _ (c .before .before .of .ensures) (c .before .if1 .left) .header)
-
-cast-q : tie.Need-cast-q
-cast-q c = omega (arith, c .slice-known2 .given kind.sizeAt)
-
-size-requires : tie.Need-size-requires
-size-requires c κs = accepts _ (c .before .before .of .ensures) (c .before .if1 .left) .most
+    let args = c .before .before .before .before .before .before .before .args in
+    call-refuses sliding (λ P. steps.slid P (args .id) (args .ticket)) 48 _ (c .before .before .opening .ensures) (c .if1 .taken)
 
 slice-relend-prefix-slide : tie.Need-slice-relend-prefix-slide
-slice-relend-prefix-slide c = part-fits _ (c .before .before .before .of .ensures) (c .before .before .if1 .left) (c .size .ensures)
+slice-relend-prefix-slide c = part-fits _ (c .before .before .opening .ensures) (c .if1 .left)
 
 slice-aggregate-slide : tie.Need-slice-aggregate-slide
-slice-aggregate-slide c =
-    let z = c .before in
-    sym (length-take-le _ _ (part-fits _ (z .before .before .before .of .ensures) (z .before .before .if1 .left) (z .size .ensures)))
+slice-aggregate-slide c = let i = c .before in part-long _ (i .before .before .opening .ensures) (i .if1 .left)
 
 slide-requires : tie.Need-slide-requires
-slide-requires c κs =
-    let z = c .before .before in
-    (part-ready _ (z .before .before .before .of .ensures) (z .before .before .if1 .left) (z .size .ensures), search needs)
+slide-requires c κs = let i = c .before .before in (part-ready _ (i .before .before .opening .ensures) (i .if1 .left), search needs)
 
 same-length-2 : tie.Need-same-length-2
 same-length-2 c = search needs
@@ -52,22 +35,18 @@ same-length-2 c = search needs
 returns-2 : tie.Need-returns-2
 returns-2 c =
     let l = c .before .before in
-    let z = l .before .before .before in
-    let o = z .before .before .before in
-    let args = o .before .before .before .before .before .args in
-    call-answers sliding (λ P. steps.slid P (args .id) (args .ticket)) 48 _ (o .of .ensures) (z .before .before .if1 .left) (z .size .ensures) (l .slide .ensures .0) (l .slide .ensures .1 .0) (l .slide .ensures .1 .1) (search needs)
+    let i = l .before .before .before in
+    let args = i .before .before .before .before .before .before .before .args in
+    call-answers sliding (λ P. steps.slid P (args .id) (args .ticket)) 48 _ (i .before .before .opening .ensures) (i .if1 .left) (l .slide .ensures .0) (l .slide .ensures .1 .0) (l .slide .ensures .1 .1) (search needs)
 
 pub slide-spec : {M : Type 1} → statement M
 slide-spec =
     tie.close
     (tie.spec
     table-requires
-    of-requires
+    opening-requires
     same-length
     returns
-    slice-read-q
-    cast-q
-    size-requires
     slice-relend-prefix-slide
     slice-aggregate-slide
     slide-requires

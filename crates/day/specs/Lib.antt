@@ -1,0 +1,2 @@
+-- What the day record holds after a run.
+pub mod Totals

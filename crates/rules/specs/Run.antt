@@ -1,0 +1,118 @@
+-- The run: what its bytes say, where it stops, which commands it carries out, and what they come to by the plain history.
+use mathlib.Core.Bool.{Bool, true, false, cond, _&&_, _||_}
+use mathlib.Core.List.{List, [], _∷_}
+use Prim.Native.Nat.{ℕ, zero, suc, _+_, _*_}
+use lib.Dec.{ltb, eqb}
+use lib.ListN.{length, drop, getD}
+use Rattle.rules.specs.History.{Request, Waiting, request}
+use Rattle.rules.specs.Picture.{Picture}
+use Rattle.rules.specs.Commands.{Command, arriving, sliding, serving, Outcome, joined, evicted, turned, passed, served, idle, outcome, step, next}
+
+-- bytes of a command: a kind, an id and a ticket of four bytes each
+abbrev pub commandBytes : ℕ
+commandBytes = 9
+
+-- a number in four bytes, lowest first
+abbrev pub number : List ℕ → ℕ
+number s = getD s 0 0 + 256 * getD s 1 0 + 65536 * getD s 2 0 + 16777216 * getD s 3 0
+
+-- the kind, the id and the ticket at the front of the bytes
+abbrev pub kindOf : List ℕ → ℕ
+kindOf s = getD s 0 0
+
+abbrev pub idIn : List ℕ → ℕ
+idIn s = number (drop 1 s)
+
+abbrev pub ticketIn : List ℕ → ℕ
+ticketIn s = number (drop 5 s)
+
+-- whether a kind, an id and a ticket are a command: 1 arrive, 2 slide, 3 serve, whose id and ticket are 0
+abbrev pub known : ℕ → ℕ → ℕ → Bool
+known k i t = eqb k 1 || (eqb k 2 || (eqb k 3 && (eqb i 0 && eqb t 0)))
+
+-- the command that they are
+abbrev pub commandOf : ℕ → ℕ → ℕ → Command
+commandOf k i t = cond (eqb k 1) (arriving (request i t)) (cond (eqb k 2) (sliding (request i t)) serving)
+
+-- the number at which a run stops, with a budget: no bytes left, 0; the budget is spent, 1; under 9 bytes left, 7; no command, 8
+unfoldable pub stop : ℕ → List ℕ → ℕ
+stop zero s = cond (eqb (length s) 0) 0 1
+stop (suc b) s =
+    cond (eqb (length s) 0) 0
+    (cond (ltb (length s) commandBytes) 7 (cond (known (kindOf s) (idIn s) (ticketIn s)) (stop b (drop commandBytes s)) 8))
+
+-- the commands before the stop
+unfoldable pub carried : ℕ → List ℕ → List Command
+carried zero s = []
+carried (suc b) s =
+    cond (eqb (length s) 0) []
+    (cond (ltb (length s) commandBytes) []
+    (cond (known (kindOf s) (idIn s) (ticketIn s)) (commandOf (kindOf s) (idIn s) (ticketIn s) ∷ carried b (drop commandBytes s)) []))
+
+-- the history after commands, and what each of them comes to, at a window of q places
+abbrev pub after : ℕ → Waiting → List Command → Waiting
+after q s [] = s
+after q s (c ∷ cs) = after q (step q s c) cs
+
+abbrev pub outcomes : ℕ → Waiting → List Command → List Outcome
+outcomes q s [] = []
+outcomes q s (c ∷ cs) = outcome q s c ∷ outcomes q (step q s c) cs
+
+-- the picture after them
+abbrev pub nextAll : Picture → List Command → Picture
+nextAll P [] = P
+nextAll P (c ∷ cs) = nextAll (next P c) cs
+
+-- which outcomes each of the six totals counts; an arrival that evicts joins too, and so does every slide
+abbrev pub joins : Outcome → ℕ
+joins joined = 1
+joins (evicted r) = 1
+joins turned = 0
+joins (passed r) = 1
+joins (served r) = 0
+joins idle = 0
+
+abbrev pub evicts : Outcome → ℕ
+evicts joined = 0
+evicts (evicted r) = 1
+evicts turned = 0
+evicts (passed r) = 0
+evicts (served r) = 0
+evicts idle = 0
+
+abbrev pub passes : Outcome → ℕ
+passes joined = 0
+passes (evicted r) = 0
+passes turned = 0
+passes (passed r) = 1
+passes (served r) = 0
+passes idle = 0
+
+abbrev pub serves : Outcome → ℕ
+serves joined = 0
+serves (evicted r) = 0
+serves turned = 0
+serves (passed r) = 0
+serves (served r) = 1
+serves idle = 0
+
+abbrev pub turns : Outcome → ℕ
+turns joined = 0
+turns (evicted r) = 0
+turns turned = 1
+turns (passed r) = 0
+turns (served r) = 0
+turns idle = 0
+
+abbrev pub idles : Outcome → ℕ
+idles joined = 0
+idles (evicted r) = 0
+idles turned = 0
+idles (passed r) = 0
+idles (served r) = 0
+idles idle = 1
+
+-- a total over outcomes
+abbrev pub total : (Outcome → ℕ) → List Outcome → ℕ
+total f [] = 0
+total f (o ∷ os) = f o + total f os

@@ -1,0 +1,4 @@
+-- Laws of a run.
+pub mod Tally
+pub mod Runs
+pub mod Going
