@@ -129,7 +129,6 @@ static void flat_single(void) {
 enum program { OURS, FLAT, HITTERS, DIRECT, PROGRAMS };
 static struct flat_sums sums[PROGRAMS];
 
-#ifdef WITH_RUN
 static void ours_run(void) {
     struct boomspool_ran r = boomspool_run(ours, words, commands, 9 * batch, UINT64_MAX);
     sums[OURS] = (struct flat_sums){r.stop, r.done, r.joined, r.evicted, r.passed, r.served, r.turned, r.idle};
@@ -264,13 +263,7 @@ static void time_runs(size_t q, const struct mix *mix) {
         write_commands(mix, q, batch);
         t[FLAT].value[i] = (time_of(flat_run_part) - time_of(flat_empty_run)) / (double)batch;
         t[HITTERS].value[i] = time_of(hitters_run_part) / (double)batch;
-#ifdef WITH_RUN
         t[OURS].value[i] = (time_of(ours_run) - time_of(ours_empty_run)) / (double)batch;
-#else
-        ours_single();
-        sums[OURS] = sums[FLAT];
-        t[OURS].value[i] = 0;
-#endif
         assert_same_sums(DIRECT);
         assert_same_state(false);
     }
@@ -278,7 +271,6 @@ static void time_runs(size_t q, const struct mix *mix) {
     print_series(q, mix, "run", "archive", t[OURS]);
     print_series(q, mix, "run", "archive/C", ratio(t[OURS], t[FLAT]));
     print_series(q, mix, "run", "archive/Boost", ratio(t[OURS], t[HITTERS]));
-#endif
     print_series(q, mix, "run", "C", t[FLAT]);
     print_series(q, mix, "run", "Boost", t[HITTERS]);
     print_series(q, mix, "run", "Boost/C", ratio(t[HITTERS], t[FLAT]));
@@ -322,12 +314,10 @@ static void count_instructions(size_t q, const struct mix *mix) {
     count_of(q, mix, "run", "C", batch, flat_run_part);
     count_of(q, mix, "empty run", "C", 1, flat_empty_run);
     count_of(q, mix, "run", "Boost", batch, hitters_run_part);
-#ifdef WITH_RUN
     count_of(q, mix, "run", "archive", batch, ours_run);
     count_of(q, mix, "empty run", "archive", 1, ours_empty_run);
     assert_same_sums(DIRECT);
     assert_same_state(false);
-#endif
     batch = q < 100 ? 400 : 40;
     count_of(q, mix, "run", "direct", batch, direct_run_part);
 }

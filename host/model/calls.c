@@ -148,7 +148,6 @@ static void compare_ticket(struct lent *l, const struct model *m, uint32_t refus
     sums.numbers[number]++;
 }
 
-#ifdef WITH_RUN
 static void compare_report(struct boomspool_ran r, struct tally a) {
     same("run: stop", r.stop, a.stop);
     same("run: done", r.done, a.done);
@@ -192,7 +191,6 @@ static void compare_run(struct lent *l, struct model *m, uint32_t refused, const
         few_written(l, MOST_WORDS);
     }
 }
-#endif
 
 void compare_call(struct lent *l, struct model *m, uint32_t refused, const struct ask *ask) {
     memcpy(before, l->room, room_words(l) * sizeof before[0]);
@@ -215,9 +213,7 @@ void compare_call(struct lent *l, struct model *m, uint32_t refused, const struc
         compare_ticket(l, m, refused, ask);
         break;
     default:
-#ifdef WITH_RUN
         compare_run(l, m, refused, ask);
-#endif
         return;
     }
     nothing_written(l);

@@ -175,7 +175,6 @@ static void single_steps(const struct share *share, const struct mix *mix, size_
     compare_table(&lent, &model);
 }
 
-#ifdef WITH_RUN
 static void write_number(uint8_t *bytes, uint32_t x) {
     for (size_t i = 0; i < 4; i++) {
         bytes[i] = (uint8_t)(x >> (8 * i));
@@ -221,7 +220,6 @@ static void runs(const struct share *share, const struct mix *mix, size_t n, uin
         ask_listing(HEAVIEST);
     }
 }
-#endif
 
 /* Lay-out's refusals, in their order, and the number of words. */
 static void lay_out_refusals(void) {
@@ -283,9 +281,7 @@ int main(int argc, char **argv) {
             for (size_t n = 0; n < 3; n++) {
                 single_steps(&shares[s], &mixes[m], palettes[n], seed++, shares[s].steps * part / 100 + 1);
                 single_steps(&shares[s], &mixes[m], palettes[n], seed++, 1 + shares[s].steps * part / 200);
-#ifdef WITH_RUN
                 runs(&shares[s], &mixes[m], palettes[n], seed++, 1 + shares[s].runs * part / 100);
-#endif
             }
         }
     }

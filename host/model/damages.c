@@ -132,12 +132,8 @@ static void compare_verdict(void) {
     }
     struct ask question = choose_ask(HEAVIEST + (enum call)below(&dice, 5));
     compare_call(&lent, &model, refused, &question);
-#ifdef WITH_RUN
     const enum call steps[] = {ARRIVE, SLIDE, SERVE, RUN, RUN_DAY};
     struct ask step = choose_ask(steps[below(&dice, 5)]);
-#else
-    struct ask step = choose_ask(ARRIVE + (enum call)below(&dice, 3));
-#endif
     compare_call(&lent, &model, refused, &step);
     if (refused == 0) {
         compare_table(&lent, &model);
