@@ -135,7 +135,6 @@ static void ours_run(void) {
 }
 
 static void ours_empty_run(void) { sink += boomspool_run(ours, words, commands, 0, UINT64_MAX).stop; }
-#endif
 
 static void flat_run_part(void) { sums[FLAT] = flat_run(theirs, words, commands, 9 * batch, UINT64_MAX); }
 static void flat_empty_run(void) { sink += flat_run(theirs, words, commands, 0, UINT64_MAX).stop; }
@@ -267,7 +266,6 @@ static void time_runs(size_t q, const struct mix *mix) {
         assert_same_sums(DIRECT);
         assert_same_state(false);
     }
-#ifdef WITH_RUN
     print_series(q, mix, "run", "archive", t[OURS]);
     print_series(q, mix, "run", "archive/C", ratio(t[OURS], t[FLAT]));
     print_series(q, mix, "run", "archive/Boost", ratio(t[OURS], t[HITTERS]));
