@@ -50,13 +50,11 @@ static inline uint32_t find(struct view v, uint32_t id) {
     return c;
 }
 
-size_t flat_words(size_t q) { return q >= 1 && q <= LARGEST ? HEADER + ROW * q : 0; }
-
 uint32_t flat_lay_out(uint32_t *t, size_t words, size_t q) {
     if (q < 1 || q > LARGEST) {
         return 1;
     }
-    if (words < flat_words(q)) {
+    if (words < HEADER + ROW * q) {
         return 2;
     }
     memset(t, 0, (HEADER + (ITEM + CLIENT) * q) * sizeof t[0]);
@@ -352,7 +350,8 @@ static bool free_items_sound(struct view v) {
     return at == NONE;
 }
 
-uint32_t flat_check(const uint32_t *t, size_t words) {
+/* The refusal number, 0 for none. */
+static uint32_t check(const uint32_t *t, size_t words) {
     if (words < HEADER) {
         return 2;
     }
@@ -377,22 +376,22 @@ uint32_t flat_check(const uint32_t *t, size_t words) {
 /* The calls. */
 
 struct flat_left flat_arrive(uint32_t *t, size_t words, uint32_t id, uint32_t ticket) {
-    uint32_t number = flat_check(t, words);
+    uint32_t number = check(t, words);
     return number ? (struct flat_left){number, 0, 0, 0} : arrive(view(t), id, ticket);
 }
 
 struct flat_left flat_slide(uint32_t *t, size_t words, uint32_t id, uint32_t ticket) {
-    uint32_t number = flat_check(t, words);
+    uint32_t number = check(t, words);
     return number ? (struct flat_left){number, 0, 0, 0} : slide(view(t), id, ticket);
 }
 
 struct flat_left flat_serve(uint32_t *t, size_t words) {
-    uint32_t number = flat_check(t, words);
+    uint32_t number = check(t, words);
     return number ? (struct flat_left){number, 0, 0, 0} : serve(view(t));
 }
 
 uint32_t flat_count(const uint32_t *t, size_t words, uint32_t id, uint32_t *count) {
-    uint32_t number = flat_check(t, words);
+    uint32_t number = check(t, words);
     *count = 0;
     if (number == 0) {
         struct view v = view((uint32_t *)t);
@@ -402,50 +401,13 @@ uint32_t flat_count(const uint32_t *t, size_t words, uint32_t id, uint32_t *coun
     return number;
 }
 
-uint32_t flat_list(const uint32_t *t, size_t words, int heaviest, size_t k, uint32_t *out, size_t out_words, size_t *pairs) {
-    uint32_t number = flat_check(t, words);
-    *pairs = 0;
-    if (number != 0) {
-        return number;
-    }
-    struct view v = view((uint32_t *)t);
-    size_t n = k < t[CLIENTS] ? k : t[CLIENTS];
-    if (out_words < 2 * n) {
-        return 4;
-    }
-    uint32_t at = heaviest ? t[HEAVIEST] : t[LIGHTEST];
-    for (size_t i = 0; i < n; i++) {
-        const uint32_t *row = client(v, at);
-        out[2 * i] = row[ID];
-        out[2 * i + 1] = row[WAITING];
-        at = heaviest ? row[LIGHTER] : row[HEAVIER];
-    }
-    *pairs = n;
-    return 0;
-}
-
-uint32_t flat_told(const uint32_t *t, size_t words, int newest, uint32_t id, uint32_t *ticket) {
-    uint32_t number = flat_check(t, words);
-    *ticket = 0;
-    if (number != 0) {
-        return number;
-    }
-    struct view v = view((uint32_t *)t);
-    uint32_t c = find(v, id);
-    if (c == NONE) {
-        return 6;
-    }
-    *ticket = item(v, client(v, c)[newest ? NEWEST : OLDEST])[TICKET];
-    return 0;
-}
-
 static inline uint32_t number_at(const uint8_t *bytes) {
     uint32_t x;
     memcpy(&x, bytes, sizeof x);
     return x;
 }
 
-struct flat_sums flat_run_unchecked(uint32_t *t, const uint8_t *commands, size_t bytes, uint64_t budget) {
+static struct flat_sums carry_out(uint32_t *t, const uint8_t *commands, size_t bytes, uint64_t budget) {
     struct flat_sums sums = {0};
     struct view v = view(t);
     for (; bytes > 0; bytes -= 9, commands += 9, sums.done++) {
@@ -479,6 +441,6 @@ struct flat_sums flat_run_unchecked(uint32_t *t, const uint8_t *commands, size_t
 }
 
 struct flat_sums flat_run(uint32_t *t, size_t words, const uint8_t *commands, size_t bytes, uint64_t budget) {
-    uint32_t number = flat_check(t, words);
-    return number ? (struct flat_sums){number, 0, 0, 0, 0, 0, 0, 0} : flat_run_unchecked(t, commands, bytes, budget);
+    uint32_t number = check(t, words);
+    return number ? (struct flat_sums){number, 0, 0, 0, 0, 0, 0, 0} : carry_out(t, commands, bytes, budget);
 }

@@ -13,23 +13,16 @@ struct flat_sums { uint32_t stop; uint64_t done, joined, evicted, passed, served
 /* What happened to the command: 1 joined, 2 evicted, 3 turned away, 4 passed, 5 served. */
 enum { FLAT_JOINED = 1, FLAT_EVICTED, FLAT_TURNED, FLAT_PASSED, FLAT_SERVED };
 
-size_t flat_words(size_t q);
 uint32_t flat_lay_out(uint32_t *t, size_t words, size_t q);
-/* The verdict alone. */
-uint32_t flat_check(const uint32_t *t, size_t words);
 
 /* Each checks the whole table first. */
 struct flat_left flat_arrive(uint32_t *t, size_t words, uint32_t id, uint32_t ticket);
 struct flat_left flat_slide(uint32_t *t, size_t words, uint32_t id, uint32_t ticket);
 struct flat_left flat_serve(uint32_t *t, size_t words);
 uint32_t flat_count(const uint32_t *t, size_t words, uint32_t id, uint32_t *count);
-uint32_t flat_list(const uint32_t *t, size_t words, int heaviest, size_t k, uint32_t *out, size_t out_words, size_t *pairs);
-uint32_t flat_told(const uint32_t *t, size_t words, int newest, uint32_t id, uint32_t *ticket);
 
 /* Checks once, then carries the commands out. */
 struct flat_sums flat_run(uint32_t *t, size_t words, const uint8_t *commands, size_t bytes, uint64_t budget);
-/* The same without the check. */
-struct flat_sums flat_run_unchecked(uint32_t *t, const uint8_t *commands, size_t bytes, uint64_t budget);
 
 #ifdef __cplusplus
 }
