@@ -1,2 +1,3 @@
--- What the C server's calls promise: document 01's numbers, field by field.
+-- What the C server's calls promise: document 01's numbers, field by field, and the day record.
 pub mod Replies
+pub mod Runs

@@ -12,7 +12,7 @@ ghost use Rattle.limiter.specs.Lent.{waitingIn, numbersOf};
 ghost use Rattle.limiter.specs.Questions.{listedAnswer, listedOut, listedNumber, countedAnswer, countedNumber, toldAnswer, toldNumber};
 ghost use Rattle.limiter.specs.Calls.{arriveChoice, arriveAnswer, arriveNumber, choiceValues, slideLeaves, slideAnswer, slideNumber, slideValues, serveAnswer, serveNumber, serveValues};
 ghost use Rattle.limiter.specs.Runs.{runAnswer, runWords};
-ghost use Rattle.day.specs.Totals.{addedTo};
+ghost use Rattle.boomspool.specs.Runs.{runDay};
 ghost use Rattle.boomspool.specs.Replies.{wordsOf, arrivedStruct, arrivedFields, slidStruct, slidFields, servedStruct, servedFields, listedStruct, listedFields, countedStruct, countedFields, toldStruct, toldFields};
 use day::Day;
 use limiter::Counted;
@@ -300,7 +300,7 @@ pub extern "C" fn boomspool_run(t: &mut [u32], commands: &[u8], budget: u64) -> 
     limiter::run(t, commands, budget)
 }
 
-// The same, and the day record is brought up to date where it stands.
+// The same, and the day record is brought up to date where it stands; a refused run leaves it.
 #[no_mangle]
 pub extern "C" fn boomspool_run_day(
     t: &mut [u32],
@@ -310,7 +310,7 @@ pub extern "C" fn boomspool_run_day(
 ) -> Ran
     ensures reply { λ r. ⌜ r ≡ runAnswer budget (now (commands .entry)) (now (t .entry)) ⌝ }
     ensures words { λ _. ⌜ now (t .exit) ≡ runWords budget (now (commands .entry)) (now (t .entry)) ⌝ }
-    ensures totals { λ _. ⌜ now (day .exit) ≡ addedTo (now (day .entry)) (runAnswer budget (now (commands .entry)) (now (t .entry))) ⌝ }
+    ensures totals { λ _. ⌜ now (day .exit) ≡ runDay budget (now (commands .entry)) (now (t .entry)) (now (day .entry)) ⌝ }
 {
     let r = limiter::run(t, commands, budget);
     day::bring_up(day, r);
