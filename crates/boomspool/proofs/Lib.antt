@@ -1,4 +1,5 @@
--- What the calls' proofs share.
+-- What the calls' proofs share, and that each promise admits one outcome.
 pub mod Clauses
 pub mod Replies
 pub mod Runs
+pub mod OneOutcome
