@@ -3,3 +3,4 @@ pub mod Lists
 pub mod Strands
 pub mod Pools
 pub mod Views
+pub mod Few

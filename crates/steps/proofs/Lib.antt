@@ -5,3 +5,4 @@ pub mod Joining
 pub mod Leaving
 pub mod Reading
 pub mod Choices
+pub mod Few

@@ -10,3 +10,4 @@ pub mod Read
 pub mod Leaving
 pub mod Writes
 pub mod Shown
+pub mod Few
