@@ -39,7 +39,7 @@ use Rattle.order.specs.Moves.{raised, lowered, admitted, dismissed}
 use Rattle.order.proofs.Kept.{comes-kept, goes-kept}
 use Rattle.order.proofs.Few.{few-raised, few-lowered, few-admitted, few-dismissed}
 use Rattle.window.specs.Steps.{joined, left}
-use Rattle.window.proofs.Few.{few-joined, few-left}
+use Rattle.window.proofs.Writes.{few-joined, few-left}
 use Rattle.steps.specs.Items.{itemIn, evicted, passed}
 use Rattle.steps.proofs.Around.{ready-others}
 use Rattle.steps.proofs.Clients.{new-row}

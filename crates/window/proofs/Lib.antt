@@ -10,4 +10,3 @@ pub mod Read
 pub mod Leaving
 pub mod Writes
 pub mod Shown
-pub mod Few
