@@ -27,7 +27,7 @@ use Rattle.limiter.proofs.Lent.{accepted}
 use Rattle.limiter.proofs.Changed.{altered-before}
 use Rattle.history.specs.Calls.{Call, arriving, sliding, serving, running, heaviest, lightest, count, oldest, newest, Lent, words, sliceAfter, carriedOut}
 use Rattle.history.proofs.Drawn.{drawn-long}
-use Rattle.history.proofs.Altered.{unaltered, arrive-few, slide-few, serve-few}
+use Rattle.steps.proofs.Few.{unaltered, arrive-few, slide-few, serve-few}
 
 -- one command after another on a ready table
 next-few : {q : ℕ} {t : List ℕ} → Ready q t → (c : Command) → altered t (draw (next (picture t) c)) ≤ 96

@@ -4,8 +4,6 @@ pub mod Call
 pub mod History
 pub mod Run
 pub mod Shape
-pub mod Few
-pub mod Altered
 pub mod Bound
 pub mod Sharing
 pub mod Cases

@@ -2,3 +2,4 @@
 pub mod Lists
 pub mod Strands
 pub mod Pools
+pub mod Few

@@ -3,3 +3,4 @@ pub mod Writers
 pub mod Walks
 pub mod Rooms
 pub mod Ready
+pub mod Few

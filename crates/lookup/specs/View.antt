@@ -2,15 +2,15 @@
 use mathlib.Core.List.{List, _∷_}
 use mathlib.Core.Bool.{Bool, true}
 use mathlib.Core.Path.{_≡_, refl, sym, subst}
-use Prim.Native.Nat.{ℕ, _<_}
+use Prim.Native.Nat.{ℕ, _≤_, _<_}
 use native.Mathlib.Omega.{arith}
 use lib.Dec.{lit<}
 use lib.ListN.{length}
 use borrow.Author.Tests.{eq-eqb, ne-eqb}
 use Rattle.table.specs.Kind as kind
-use Rattle.table.specs.Regions.{Regions, words, regions, clientWord, bucketWord, Sized, Writes}
+use Rattle.table.specs.Regions.{Regions, words, regions, clientWord, bucketWord, Sized}
 use Rattle.table.proofs.Draw.{at-other}
-use Rattle.table.proofs.Write.{draws, read-client, read-bucket}
+use Rattle.table.proofs.Write.{read-client, read-bucket}
 use Rattle.rules.specs.Rows.{In, NotIn, Distinct, without}
 use Rattle.rules.specs.Linked.{Chain}
 use Rattle.rules.specs.Spread.{bucket}
@@ -86,9 +86,15 @@ module _ {q : ℕ} {t : List ℕ} {b h : ℕ} (z : Sized q t) (hb : b < q) (firs
   first-reaches {x} {r} K id home =
       record { ends = first-ends (K .0); there = rw (first, chain-is (omega (arith, z .small)) (K .0 .keeps .filed) b hb, home, id) (K .0 .keeps .filed .stands r (K .1)) }
 
--- a table drawn from regions
-drawn-kept : {q : ℕ} {t cs : List ℕ} {C : ℕ → List ℕ} (R : Regions) → t ≡ words q R → Filed q (book R) cs C → Keeps q t cs C
-drawn-kept {q} R e F =
+-- the same of regions: they keep the clients cs, in the chains C
+pub record KeepsIn (q : ℕ) (R : Regions) (cs : List ℕ) (C : ℕ → List ℕ) : Type 0 where
+  filed : Filed q (book R) cs C
+
+pub kept-in : {q : ℕ} {t cs : List ℕ} {C : ℕ → List ℕ} → Keeps q t cs C → KeepsIn q (regions q t) cs C
+kept-in k = record { filed = k .filed }
+
+pub in-kept : {q : ℕ} {t cs : List ℕ} {C : ℕ → List ℕ} (R : Regions) → t ≡ words q R → KeepsIn q R cs C → Keeps q t cs C
+in-kept {q} R e k =
     record {
       filed = filed-agree
           (record {
@@ -96,37 +102,28 @@ drawn-kept {q} R e F =
             next = λ r i l. sym (read-client q R r kind.nextInBucket e l (lit< tt));
             head = λ b l. sym (read-bucket q R b e l);
           })
-          F;
+          (k .filed);
     }
 
--- writers
+module _ {q : ℕ} {R : Regions} {cs : List ℕ} {C : ℕ → List ℕ} (k : KeepsIn q R cs C) where
+  -- a step on other columns: the proof is `refl`
+  pub kept-same : (S : Regions) → book S ≡ book R → KeepsIn q S cs C
+  kept-same S e = record { filed = subst (λ (B : Book). Filed q B cs C) (sym e) (k .filed) }
 
-module _ {q : ℕ} {a b : List ℕ} {f : Regions → Regions} {k : ℕ} (z : Sized q a) (w : Writes q a b f k) where
-  -- a word of a client row that a writer leaves
-  pub word-after : (r g : ℕ) → r < q → g < kind.clientWords → clientWord b q r g ≡ f (regions q a) .client r g
-  word-after r g h l = read-client q (f (regions q a)) r g (draws z w) h l
+  -- a step that alters besides the id of a row that is no client: likewise
+  pub kept-id : (S : Regions) (r v : ℕ) → NotIn r cs → book S ≡ withId r v (book R) → KeepsIn q S cs C
+  kept-id S r v n e =
+      record {
+        filed = subst (λ (B : Book). Filed q B cs C) (sym e)
+            (filed-agree (record { id = λ s i l. sym (at-other (book R .id) r v s (λ e. other r s cs n i (sym e))); next = λ s i l. refl; head = λ c l. refl }) (k .filed));
+      }
 
-  written : {cs : List ℕ} {C : ℕ → List ℕ} → Filed q (book (f (regions q a))) cs C → Keeps q b cs C
-  written F = drawn-kept (f (regions q a)) (draws z w) F
+  pub kept-enter : (r : ℕ) → q ≤ kind.largest → r < q → NotIn r cs → ((s : ℕ) → In s cs → R .client s kind.id ≡ R .client r kind.id → ⊥)
+      → KeepsIn q (enterRow q r R) (r ∷ cs) (put (bucket q (R .client r kind.id)) r C)
+  kept-enter r small h n own = record { filed = enter-filed q R cs C r (k .filed) n (omega (arith, small)) h own }
 
-  module _ {cs : List ℕ} {C : ℕ → List ℕ} (m : Keeps q a cs C) where
-    -- a writer of other columns: the proof is `λ R. refl`
-    pub kept-same : ((R : Regions) → book (f R) ≡ book R) → Keeps q b cs C
-    kept-same same = written (subst (λ (B : Book). Filed q B cs C) (sym (same (regions q a))) (m .filed))
-
-    -- a writer that alters besides the id of a row that is no client: likewise
-    pub kept-id : (r v : ℕ) → NotIn r cs → ((R : Regions) → book (f R) ≡ withId r v (book R)) → Keeps q b cs C
-    kept-id r v n same =
-        written
-        (subst (λ (B : Book). Filed q B cs C) (sym (same (regions q a)))
-        (filed-agree (record { id = λ s i l. sym (at-other (idOf q a) r v s (λ e. other r s cs n i (sym e))); next = λ s i l. refl; head = λ c l. refl }) (m .filed)))
-
-module _ {q : ℕ} {a b cs : List ℕ} {C : ℕ → List ℕ} {k : ℕ} (r : ℕ) (z : Sized q a) (m : Keeps q a cs C) where
-  pub kept-enter : Writes q a b (enterRow q r) k → r < q → NotIn r cs → ((s : ℕ) → In s cs → idOf q a s ≡ idOf q a r → ⊥) → Keeps q b (r ∷ cs) (put (bucket q (idOf q a r)) r C)
-  kept-enter w h n own = written z w (enter-filed q (regions q a) cs C r (m .filed) n (omega (arith, z .small)) h own)
-
-  pub kept-leave : Writes q a b (leaveRow q r) k → In r cs → Distinct cs → Keeps q b (without r cs) (cut r C)
-  kept-leave w i d = written z w (leave-filed q (omega (arith, z .small)) (regions q a) cs C r (m .filed) i d)
+  pub kept-leave : (r : ℕ) → q ≤ kind.largest → In r cs → Distinct cs → KeepsIn q (leaveRow q r R) (without r cs) (cut r C)
+  kept-leave r small i d = record { filed = leave-filed q (omega (arith, small)) R cs C r (k .filed) i d }
 
 -- the next in bucket of a row that left is 0; a row that is no client's keeps its own
 module _ (q r : ℕ) (R : Regions) where

@@ -1,7 +1,7 @@
 -- One law for each function: what it reads is what the regions hold, and its writes are the step.
-use mathlib.Core.List.{List, _∷_}
+use mathlib.Core.List.{List}
 use mathlib.Core.Bool.{cond}
-use mathlib.Core.Path.{_≡_, refl, sym, ap, ap₂, _∙_, subst}
+use mathlib.Core.Path.{_≡_, sym, ap, ap₂, _∙_, subst}
 use Prim.Native.Nat.{ℕ, _+_, _-_, _≤_, _<_}
 use native.Mathlib.Omega.{arith}
 use lib.Dec.{eqb, lit<}
@@ -9,20 +9,17 @@ use lib.ListN.{getD}
 use borrow.Author.Tests.{eq-eqb, ne-eqb}
 use Rattle.table.specs.Kind as kind
 use Rattle.table.specs.Regions.{Regions, clientWord, countWord, Sized, Writes, setHeader, setClient, setCount}
-use Rattle.table.proofs.Draw.{at-other}
-use Rattle.table.proofs.Write.{then, so-read, sized-after, read-header, read-client, read-count}
-use Rattle.rules.specs.Rows.{In}
+use Rattle.table.proofs.Write.{then, draws, so-read, read-header, read-client, read-count}
 use Rattle.rules.specs.Linked.{Link}
-use Rattle.rules.specs.Spread.{bucket}
-use Rattle.rules.proofs.Rows.{other, gone, without-length}
+use Rattle.rules.proofs.Rows.{without-length}
 use Rattle.links.specs.Strands.{theOrder, unlinkIn, insertIn}
 use Rattle.links.proofs.Lists.{end-links}
-use Rattle.lookup.specs.Book.{idOf, enterRow, leaveRow, put}
-use Rattle.lookup.specs.View.{Keeps, kept-below, word-after, kept-same, kept-id, kept-enter, kept-leave}
+use Rattle.lookup.specs.Book.{enterRow, leaveRow}
 use Rattle.order.specs.Moves.{endWithout, orElse, leaveGroup, enterGroup, takeOut, after, putIn, raiseAfter, raised, lowerBefore, lowerAfter, lowered, oneMore, oneLess, takeRow, admitted, clearRow, freeRow, dismissed}
 use Rattle.order.specs.Asks.{Finds, Drawn, Standing, Listed, Vacant, Enters, Leaves}
 use Rattle.order.proofs.Moved.{stands, raise-links, lower-links, lower-row}
 use Rattle.order.proofs.Coming.{first-free, room-for}
+use Rattle.order.proofs.Kept.{comes-kept, goes-kept}
 
 -- what a table is drawn from, after a writer
 pub drawn-then : {q : ℕ} {a b : List ℕ} {f : Regions → Regions} {k : ℕ} {F G : Regions → Type 0} → Writes q a b f k → ((R : Regions) → F R → G (f R)) → Drawn q a F → Drawn q b G
@@ -195,19 +192,10 @@ module _ {q : ℕ} {t : List ℕ} where
             so-read (then (then (then x y) z) v)
             (λ R f. ap (λ (k : ℕ). oneMore (putIn k 1 kind.none (enterRow q k (takeRow k id R)))) (e ∙ read-header q R kind.freeClientAt f (lit< tt)))
 
-        -- by the lookup's laws, one after the other
-        pub enters : Sized q t → r < q → Enters q t d id r
-        enters sz hr =
-            let sa = sized-after sz x in
-            let sb = sized-after sa y in
-            let mine : idOf q a r ≡ id = word-after sz x r kind.id hr (lit< tt) ∙ rw (eq-eqb r r refl) in
-            record {
-              keeps = λ cs C k n own.
-                  let other-id : (s : ℕ) → In s cs → idOf q a s ≡ idOf q t s =
-                  λ s i. word-after sz x s kind.id (kept-below k s i) (lit< tt) ∙ at-other (idOf q t) r id s (λ e. other r s cs n i (sym e)) in
-                  let entered = kept-enter r sa (kept-id sz x k r id n (λ R. refl)) y hr n (λ s i e. own s i (sym (other-id s i) ∙ e ∙ mine)) in
-                  subst (λ (m : ℕ). Keeps q d (r ∷ cs) (put (bucket q m) r C)) mine (kept-same (sized-after sb z) v (kept-same sb z entered (λ R. refl)) (λ R. refl));
-            }
+        pub enters : Sized q t → r ≡ getD t kind.freeClientAt 0 → r < q → Enters q t d id r
+        enters sz e hr =
+            subst (λ (m : ℕ). Enters q t d id m) (sym e)
+            (subst (λ (l : List ℕ). Enters q t l id (getD t kind.freeClientAt 0)) (sym (draws sz (admit-writes e))) (comes-kept (sz .small) t id (subst (λ (m : ℕ). m < q) e hr)))
 
   -- a client goes
 
@@ -234,10 +222,4 @@ module _ {q : ℕ} {t : List ℕ} where
         dismiss-writes = then (then (then x y) z) v
 
         pub leaves : Sized q t → Leaves q t d r
-        leaves sz =
-            let sa = sized-after sz x in
-            let sb = sized-after sa y in
-            record {
-              keeps = λ cs C k i e.
-                  kept-same (sized-after sb z) v (kept-id sb z (kept-same sa y (kept-leave r sz k x i e) (λ R. refl)) r 0 (gone r cs i e) (λ R. refl)) (λ R. refl);
-            }
+        leaves sz = subst (λ (l : List ℕ). Leaves q t l r) (sym (draws sz dismiss-writes)) (goes-kept (sz .small) t r)

@@ -7,4 +7,6 @@ pub mod Bridge
 pub mod Frames
 pub mod Moved
 pub mod Coming
+pub mod Kept
 pub mod Calls
+pub mod Few

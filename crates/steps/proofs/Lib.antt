@@ -6,3 +6,4 @@ pub mod Leaving
 pub mod Reading
 pub mod Choices
 pub mod Still
+pub mod Few

@@ -226,6 +226,18 @@ module _ (q : ℕ) (R : Regions) where
       (append-set (toBuckets q R) (upto q (R .bucket)) (kind.bucketsFrom q) b v (length-toBuckets q R)
       ∙ rw (set-upto q (R .bucket) b v h) (sym (split-buckets q (setBucket b v R))))
 
+  pub item-past : (r f v : ℕ) → q ≤ r → words q (setItem r f v R) ≡ words q R
+  unfolding words
+  item-past r f v h = rw (rows-past kind.itemWords q (R .item) r f v h)
+
   pub client-past : (r f v : ℕ) → q ≤ r → words q (setClient r f v R) ≡ words q R
   unfolding words
   client-past r f v h = rw (rows-past kind.clientWords q (R .client) r f v h)
+
+  pub count-past : (r f v : ℕ) → q ≤ r → words q (setCount r f v R) ≡ words q R
+  unfolding words
+  count-past r f v h = rw (rows-past kind.countWords q (R .count) r f v h)
+
+  pub bucket-past : (b v : ℕ) → q ≤ b → words q (setBucket b v R) ≡ words q R
+  unfolding words
+  bucket-past b v h = rw (upto-agree q (at (R .bucket) b v) (R .bucket) (λ i l. at-other (R .bucket) b v i (λ e. omega (arith, h, l, e))))

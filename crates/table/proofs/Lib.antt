@@ -3,3 +3,4 @@ pub mod Fields
 pub mod Draw
 pub mod Whole
 pub mod Write
+pub mod Few

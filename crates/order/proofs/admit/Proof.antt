@@ -44,7 +44,7 @@ returns c =
       first .0,
       (
         admit-writes _ _ D (first .1 .0) (x .enter .ensures .0) (y .put-in .ensures .0) (done .0) (first .0),
-        (done .1, enters _ _ D (first .1 .0) (x .enter .ensures .0) (y .put-in .ensures .0) (done .0) (s .pre .0) (new-row (s .pre .0 .small) D (first .0))),
+        (done .1, enters _ _ D (first .1 .0) (x .enter .ensures .0) (y .put-in .ensures .0) (done .0) (s .pre .0) (first .0) (new-row (s .pre .0 .small) D (first .0))),
       ),
     )
 

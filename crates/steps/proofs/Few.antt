@@ -1,27 +1,27 @@
--- One call alters few words: the drawing of the next picture differs from the table in no more words than the layers' steps set.
+-- How many words arrive, slide and serve alter at most: the drawing of the next picture differs from the table in no more words than the layers' steps set.
 use mathlib.Core.Bool.{Bool, true, false}
-use mathlib.Core.List.{List, _∷_, map}
+use mathlib.Core.List.{List, map}
 use mathlib.Core.Path.{_≡_, refl, sym, ap, _∙_, subst}
 use mathlib.Core.Logic.{inl}
-use Prim.Native.Nat.{ℕ, _≤_, _<_}
+use Prim.Native.Nat.{ℕ, _+_, _≤_, _<_}
 use native.Mathlib.Decide.{ℕ-discrete}
 use native.Mathlib.Omega.{arith}
-use lib.Dec.{lit<, lit≤}
+use lib.Dec.{lit≤}
 use lib.ListN.{length, getD}
 use Rattle.table.specs.Kind as kind
 use Rattle.table.specs.Regions.{Regions, words, regions, altered, itemWord, clientWord}
-use Rattle.table.proofs.Draw.{at-same, at-other}
+use Rattle.table.proofs.Few.{Few, few-then}
 use Rattle.table.proofs.Whole.{whole, agree-words}
-use Rattle.table.proofs.Write.{altered-same, read-client, read-bucket}
+use Rattle.table.proofs.Write.{altered-same}
 use Rattle.rules.specs.Rows.{headOr, In, NotIn}
-use Rattle.rules.specs.Spread.{bucket}
+use Rattle.rules.specs.History as history
 use Rattle.rules.specs.History.{Waiting, full, count, largestCount}
 use Rattle.rules.specs.Picture.{Item, Client, Picture, clientRow, clientId, itemRows, clientRows, plain}
 use Rattle.rules.specs.Steps.{join, leave, known, arrived, slid, served}
 use Rattle.rules.specs.Draw.{drawn, draw}
 use Rattle.rules.specs.Sound.{picture, Right, Holds}
 use Rattle.rules.specs.Ready.{Ready}
-use Rattle.rules.proofs.Rows.{other, gone, not-both}
+use Rattle.rules.proofs.Rows.{not-both}
 use Rattle.rules.proofs.Put.{Put, put-there, put-map, put-in, take-all}
 use Rattle.rules.proofs.Columns.{chain-head}
 use Rattle.rules.proofs.Look.{find}
@@ -34,65 +34,19 @@ use Rattle.rules.proofs.Leaving.{evict-step, front-step}
 use Rattle.rules.proofs.Steps.{full-waits, open-room}
 use Rattle.rules.proofs.Ready.{ready-right, ready-drawn, ready-sized, ready-holds}
 use Rattle.lookup.specs.Book as lookup
-use Rattle.lookup.specs.Book.{book, bookOf, Filed, put, Found, enterRow, leaveRow}
-use Rattle.lookup.specs.Laws.Filing.{filed-agree, enter-filed, leave-filed}
-use Rattle.lookup.specs.View.{Keeps, kept-below, kept-ids, kept-stands, kept-apart, kept-nobody, kept-columns, columns-kept}
-use Rattle.order.specs.Moves.{takeRow, admitted, dismissed}
-use Rattle.order.specs.Asks.{Enters, Leaves}
+use Rattle.lookup.specs.Book.{Found}
+use Rattle.order.specs.Moves.{raised, lowered, admitted, dismissed}
+use Rattle.order.proofs.Kept.{comes-kept, goes-kept}
+use Rattle.order.proofs.Few.{few-raised, few-lowered, few-admitted, few-dismissed}
+use Rattle.window.specs.Steps.{joined, left}
+use Rattle.window.proofs.Writes.{few-joined, few-left}
 use Rattle.steps.specs.Items.{itemIn, evicted, passed}
 use Rattle.steps.proofs.Around.{ready-others}
 use Rattle.steps.proofs.Clients.{new-row}
 use Rattle.steps.proofs.Choices.{choice-joined, choice-turned, choice-evicted, arrived-by, slid-joined, slid-passed, served-nobody, served-front, then-ready, then-joined}
 use Rattle.steps.proofs.Reading.{heavy-newest, front-waits}
 use Rattle.steps.proofs.Joining.{known-holds, new-holds}
 use Rattle.steps.proofs.Leaving.{item-row, last-holds, more-holds}
-use Rattle.history.proofs.Few.{few-join-known, few-join-new, few-leave-last, few-leave-more}
-
--- the lookup's columns of a table, and of words that are drawn
-filed : {q : ℕ} {t cs : List ℕ} {C : ℕ → List ℕ} → Keeps q t cs C → Filed q (bookOf q t) cs C
-filed k =
-    record { chained = kept-columns k; stands = kept-stands k; apart = kept-apart k; nobody = kept-nobody k; ids = kept-ids k; below = kept-below k }
-
-keeps : {q : ℕ} {cs : List ℕ} {C : ℕ → List ℕ} (R : Regions) → Filed q (book R) cs C → Keeps q (words q R) cs C
-keeps {q} R F =
-    columns-kept
-    (filed-agree
-    (record {
-      id = λ r i l. sym (read-client q R r kind.id refl l (lit< tt));
-      next = λ r i l. sym (read-client q R r kind.nextInBucket refl l (lit< tt));
-      head = λ b l. sym (read-bucket q R b refl l);
-    })
-    F)
-
--- another id in a row that is no client's
-id-aside : {q : ℕ} {cs : List ℕ} {C : ℕ → List ℕ} (B : lookup.Book) (r v : ℕ) → NotIn r cs → Filed q B cs C → Filed q (lookup.withId r v B) cs C
-id-aside {cs = cs} B r v n =
-    filed-agree (record { id = λ s i l. sym (at-other (B .id) r v s (λ e. other r s cs n i (sym e))); next = λ s i l. refl; head = λ c l. refl })
-
--- what the lookup keeps when a client comes, and when one goes
-module _ (q : ℕ) (small : q ≤ kind.largest) (t : List ℕ) where
-  abbrev R : Regions
-  R = regions q t
-
-  enters : (id : ℕ) → R .header kind.freeClientAt < q → Enters q t (words q (admitted q id R)) id (R .header kind.freeClientAt)
-  enters id low =
-      let r : ℕ = R .header kind.freeClientAt in
-      let S : Regions = takeRow r id R in
-      let mine : S .client r kind.id ≡ id = at-same (λ s. R .client s kind.id) r id in
-      record {
-        keeps = λ cs C k n own.
-            let F : Filed q (book S) cs C = id-aside (bookOf q t) r id n (filed k) in
-            let E = enter-filed q S cs C r F n (omega (arith, small)) low
-            (λ s i e. own s i (sym (at-other (λ x. R .client x kind.id) r id s (λ z. other r s cs n i (sym z))) ∙ e ∙ mine)) in
-            keeps (admitted q id R) (subst (λ (m : ℕ). Filed q (book (enterRow q r S)) (r ∷ cs) (put (bucket q m) r C)) mine E);
-      }
-
-  leaves : (r : ℕ) → Leaves q t (words q (dismissed q r R)) r
-  leaves r =
-      record {
-        keeps = λ cs C k i d.
-            keeps (dismissed q r R) (id-aside (book (leaveRow q r R)) r 0 (gone r cs i d) (leave-filed q (omega (arith, small)) R cs C r (filed k) i d));
-      }
 
 -- on a ready table
 module _ {q : ℕ} {t : List ℕ} (y : Ready q t) where
@@ -102,12 +56,13 @@ module _ {q : ℕ} {t : List ℕ} (y : Ready q t) where
   abbrev T : Regions
   T = regions q t
 
-  -- words that hold the next picture are its drawing
-  drawing : {k : ℕ} (Q : Picture) (S : Regions) → Right Q → Q .size ≡ q → Holds S Q → altered (words q T) (words q S) ≤ k → altered t (draw Q) ≤ k
+  -- words that hold the next picture are its drawing: by the order's step to A and the window's to S
+  drawing : {k m : ℕ} (Q : Picture) (A S : Regions) → Right Q → Q .size ≡ q → Holds S Q → Few q k T A → Few q m A S → k + m ≤ 48 → altered t (draw Q) ≤ 48
   unfolding draw
-  drawing {k} Q S v s h few =
+  drawing Q A S v s h x z l =
       let is : words q S ≡ words (Q .size) (drawn Q) = ap (λ (n : ℕ). words n S) (sym s) ∙ agree-words (holds-agree Q v S h) in
-      subst (λ (l : List ℕ). altered t l ≤ k) is (subst (λ (l : List ℕ). altered l (words q S) ≤ k) (sym (whole q t (ready-sized y .long))) few)
+      let few : altered (words q T) (words q S) ≤ 48 = omega (arith, few-then q T A S x z, l) in
+      subst (λ (u : List ℕ). altered t u ≤ 48) is (subst (λ (u : List ℕ). altered u (words q S) ≤ 48) (sym (whole q t (ready-sized y .long))) few)
 
   small : q ≤ kind.largest
   small = ready-sized y .small
@@ -117,15 +72,16 @@ module _ {q : ℕ} {t : List ℕ} (y : Ready q t) where
 
   -- a request joins
   module _ (id ticket : ℕ) (room : 1 ≤ length (P .freeItems)) where
-    join-drawing : {k : ℕ} (S : Regions) → Holds S (join P id ticket) → altered (words q T) (words q S) ≤ k → altered t (draw (join P id ticket)) ≤ k
-    join-drawing S h few = let j = join-step P id ticket (ready-right y) room in drawing (join P id ticket) S (j .right) (j .size ∙ y .size) h few
+    next : Step (P .size) (history.join (plain P) (history.request id ticket)) (join P id ticket)
+    next = join-step P id ticket (ready-right y) room
 
     known-few : In id (map clientId (P .clients)) → altered t (draw (join P id ticket)) ≤ 48
     known-few i =
         let f = find clientId id (P .clients) i in
         let c : ℕ = f .one .row in
         let e : ℕ = clientWord t q c kind.newest in
-        join-drawing _ (known-holds y id ticket room c (put-there clientRow (f .put)) {e = e} refl (named (f .put) ∙ f .is)) (few-join-known q c ticket e T)
+        drawing (join P id ticket) (raised c T) (joined c ticket e (raised c T)) (next .right) (next .size ∙ y .size)
+        (known-holds y id ticket room c (put-there clientRow (f .put)) {e = e} refl (named (f .put) ∙ f .is)) (few-raised q c T) (few-joined q c ticket e (raised c T)) (lit≤ tt)
 
     new-few : NotIn id (map clientId (P .clients)) → altered t (draw (join P id ticket)) ≤ 48
     new-few n =
@@ -139,7 +95,8 @@ module _ {q : ℕ} {t : List ℕ} (y : Ready q t) where
               let f = find clientRow s (P .clients) i in
               not-both id (map clientId (P .clients)) (put-in id (put-map clientId (f .put)) (inl (sym e ∙ ap (λ (x : ℕ). T .client x kind.id) (sym (f .is)) ∙ named (f .put)))) n;
         } in
-        join-drawing _ (new-holds y id ticket room absent {a = words q (admitted q id T)} refl (enters q small t id low)) (few-join-new q id c ticket T)
+        drawing (join P id ticket) (admitted q id T) (joined c ticket kind.none (admitted q id T)) (next .right) (next .size ∙ y .size)
+        (new-holds y id ticket room absent {a = words q (admitted q id T)} refl (comes-kept small t id low)) (few-admitted q id T) (few-joined q c ticket kind.none (admitted q id T)) (lit≤ tt)
 
     pub join-few : altered t (draw (join P id ticket)) ≤ 48
     join-few = go (known id P) refl
@@ -151,12 +108,15 @@ module _ {q : ℕ} {t : List ℕ} (y : Ready q t) where
   -- the item in a row leaves
   leave-few : {s : Waiting} (r : ℕ) → In r (itemRows P) → Step (P .size) s (leave P (itemIn r (P .window))) → altered t (draw (leave P (itemIn r (P .window)))) ≤ 48
   leave-few r i j =
+      let J : Picture = leave P (itemIn r (P .window)) in
       let c : ℕ = itemWord t r kind.owner in
       let low : r < q = item-row y r i in
       elim (ℕ-discrete (clientWord t q c kind.count) 1) [
         | yes e ↦
-            drawing (leave P (itemIn r (P .window))) _ (j .right) (j .size ∙ y .size) (last-holds y r i c refl e {a = words q (dismissed q c T)} refl (leaves q small t c)) (few-leave-last q r c low T)
-        | no n ↦ drawing (leave P (itemIn r (P .window))) _ (j .right) (j .size ∙ y .size) (more-holds y r i c refl n) (few-leave-more q r c low T)
+            drawing J (dismissed q c T) (left r (dismissed q c T)) (j .right) (j .size ∙ y .size)
+            (last-holds y r i c refl e {a = words q (dismissed q c T)} refl (goes-kept small t c)) (few-dismissed q c T) (few-left q r low (dismissed q c T)) (lit≤ tt)
+        | no n ↦
+            drawing J (lowered c T) (left r (lowered c T)) (j .right) (j .size ∙ y .size) (more-holds y r i c refl n) (few-lowered q c T) (few-left q r low (lowered c T)) (lit≤ tt)
       ]
 
   leave-so : {s : Waiting} (r : ℕ) (i : Item) → In r (itemRows P) → itemIn r (P .window) ≡ i → Step (P .size) s (leave P i) → altered t (draw (leave P i)) ≤ 48
