@@ -2,13 +2,14 @@
 use mathlib.Core.Bool.{Bool, true, false}
 use mathlib.Core.List.{List, [], _∷_}
 use mathlib.Core.Path.{_≡_, refl, sym, ap, _∙_}
-use Prim.Native.Nat.{ℕ, zero, suc, _≤_, _<_}
+use Prim.Native.Nat.{ℕ, zero, suc, _+_, _≤_, _<_}
+use native.Mathlib.Omega.{arith}
 use lib.ListN.{length, drop}
 use borrow.Author.Tests.{eq-eqb, ne-eqb, lt-ltb, le-ltb}
 use Rattle.rules.specs.History.{Waiting}
 use Rattle.rules.specs.Picture.{Picture, plain}
-use Rattle.rules.specs.Commands.{Command, arriving, sliding, serving, step, next}
-use Rattle.rules.specs.Run.{commandBytes, kindOf, idIn, ticketIn, known, commandOf, stop, carried, after, nextAll}
+use Rattle.rules.specs.Commands.{Command, arriving, sliding, serving, Outcome, joined, evicted, turned, passed, served, idle, step, next}
+use Rattle.rules.specs.Run.{commandBytes, kindOf, idIn, ticketIn, known, commandOf, stop, carried, after, nextAll, adds, total}
 use Rattle.rules.specs.Sound.{Right}
 use Rattle.rules.proofs.Settle.{Step}
 use Rattle.rules.proofs.Steps.{arrive-step, slide-step, serve-step}
@@ -69,3 +70,16 @@ module _ (s : List ℕ) (some : length s ≡ 0 → ⊥) where
         let n = ne-eqb (length s) 0 some in
         let l = le-ltb (length s) commandBytes whole in
         (simp (n, l, e), simp (n, l, e))
+
+-- each command joined, was turned away, served a request or was idle: the four totals come to the number carried out
+one-of-four : (o : Outcome) → adds o .joined + adds o .turned + adds o .served + adds o .idle ≡ 1
+one-of-four joined = refl
+one-of-four (evicted r) = refl
+one-of-four turned = refl
+one-of-four (passed r) = refl
+one-of-four (served r) = refl
+one-of-four idle = refl
+
+pub all-counted : (os : List Outcome) → total (λ k. k .joined) os + total (λ k. k .turned) os + total (λ k. k .served) os + total (λ k. k .idle) os ≡ length os
+all-counted [] = refl
+all-counted (o ∷ os) = omega (arith, one-of-four o, all-counted os)

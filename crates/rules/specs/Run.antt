@@ -63,56 +63,28 @@ abbrev pub nextAll : Picture → List Command → Picture
 nextAll P [] = P
 nextAll P (c ∷ cs) = nextAll (next P c) cs
 
--- which outcomes each of the six totals counts; an arrival that evicts joins too, and so does every slide
-abbrev pub joins : Outcome → ℕ
-joins joined = 1
-joins (evicted r) = 1
-joins turned = 0
-joins (passed r) = 1
-joins (served r) = 0
-joins idle = 0
+-- what an outcome adds to the six totals
+pub record Totals : Type 0 where
+  pub joined : ℕ
+  pub evicted : ℕ
+  pub passed : ℕ
+  pub served : ℕ
+  pub turned : ℕ
+  pub idle : ℕ
 
-abbrev pub evicts : Outcome → ℕ
-evicts joined = 0
-evicts (evicted r) = 1
-evicts turned = 0
-evicts (passed r) = 0
-evicts (served r) = 0
-evicts idle = 0
+abbrev pub totals : ℕ → ℕ → ℕ → ℕ → ℕ → ℕ → Totals
+totals j e p s t i = record { joined = j; evicted = e; passed = p; served = s; turned = t; idle = i }
 
-abbrev pub passes : Outcome → ℕ
-passes joined = 0
-passes (evicted r) = 0
-passes turned = 0
-passes (passed r) = 1
-passes (served r) = 0
-passes idle = 0
+-- an arrival that evicts joins too, and so does every slide
+abbrev pub adds : Outcome → Totals
+adds joined = totals 1 0 0 0 0 0
+adds (evicted r) = totals 1 1 0 0 0 0
+adds (passed r) = totals 1 0 1 0 0 0
+adds (served r) = totals 0 0 0 1 0 0
+adds turned = totals 0 0 0 0 1 0
+adds idle = totals 0 0 0 0 0 1
 
-abbrev pub serves : Outcome → ℕ
-serves joined = 0
-serves (evicted r) = 0
-serves turned = 0
-serves (passed r) = 0
-serves (served r) = 1
-serves idle = 0
-
-abbrev pub turns : Outcome → ℕ
-turns joined = 0
-turns (evicted r) = 0
-turns turned = 1
-turns (passed r) = 0
-turns (served r) = 0
-turns idle = 0
-
-abbrev pub idles : Outcome → ℕ
-idles joined = 0
-idles (evicted r) = 0
-idles turned = 0
-idles (passed r) = 0
-idles (served r) = 0
-idles idle = 1
-
--- a total over outcomes
-abbrev pub total : (Outcome → ℕ) → List Outcome → ℕ
+-- one of the totals over outcomes
+abbrev pub total : (Totals → ℕ) → List Outcome → ℕ
 total f [] = 0
-total f (o ∷ os) = f o + total f os
+total f (o ∷ os) = f (adds o) + total f os

@@ -8,7 +8,7 @@ use native.Mathlib.Numerals.{add-one}
 use lib.ListN.{length, drop, length-drop}
 use lib.Seq.{drop-drop}
 use Rattle.rules.specs.Commands.{Outcome, joined, evicted, turned, passed, served, idle, outcome, step, next}
-use Rattle.rules.specs.Run.{commandBytes, carried, nextAll, joins, evicts, passes, serves, turns, idles}
+use Rattle.rules.specs.Run.{commandBytes, carried, nextAll, adds}
 use Rattle.rules.specs.Picture.{Picture, plain}
 use Rattle.rules.specs.Draw.{draw}
 use Rattle.rules.specs.Sound.{picture}
@@ -52,7 +52,9 @@ starts q t bytes budget y fresh =
 
 -- a command is counted at most once in each total
 abbrev Once : Outcome → Type 0
-Once o = ((joins o ≤ 1) × (evicts o ≤ 1)) × (((passes o ≤ 1) × (serves o ≤ 1)) × ((turns o ≤ 1) × (idles o ≤ 1)))
+Once o =
+    let k = adds o in
+    ((k .joined ≤ 1) × (k .evicted ≤ 1)) × (((k .passed ≤ 1) × (k .served ≤ 1)) × ((k .turned ≤ 1) × (k .idle ≤ 1)))
 
 each-once : (o : Outcome) → Once o
 each-once joined = ((omega arith, omega arith), ((omega arith, omega arith), (omega arith, omega arith)))

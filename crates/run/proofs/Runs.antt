@@ -7,7 +7,7 @@ use native.Mathlib.Omega.{arith}
 use native.Mathlib.Nat.{add-zero}
 use lib.ListN.{length, drop}
 use Rattle.rules.specs.Commands.{Command, Outcome, outcome, next}
-use Rattle.rules.specs.Run.{commandBytes, stop, carried, outcomes, nextAll, joins, evicts, passes, serves, turns, idles, total}
+use Rattle.rules.specs.Run.{commandBytes, stop, carried, outcomes, nextAll, Totals, adds, total}
 use Rattle.rules.specs.Picture.{Picture, plain}
 use Rattle.rules.specs.Sound.{Right}
 use Rattle.rules.proofs.Run.{Stops, next-step, goes-on}
@@ -22,12 +22,12 @@ ranFrom r P b s =
     record {
       stop = stop b s;
       done = r .done + length (carried b s);
-      joined = r .joined + total joins os;
-      evicted = r .evicted + total evicts os;
-      passed = r .passed + total passes os;
-      served = r .served + total serves os;
-      turned = r .turned + total turns os;
-      idle = r .idle + total idles os;
+      joined = r .joined + total (λ k. k .joined) os;
+      evicted = r .evicted + total (λ k. k .evicted) os;
+      passed = r .passed + total (λ k. k .passed) os;
+      served = r .served + total (λ k. k .served) os;
+      turned = r .turned + total (λ k. k .turned) os;
+      idle = r .idle + total (λ k. k .idle) os;
     }
 
 zero-more : (n : ℕ) → 0 + n ≡ n
@@ -38,12 +38,12 @@ from-none P b s =
     let os : List Outcome = outcomesFrom P b s in λ i. record {
       stop = stop b s;
       done = zero-more (length (carried b s)) i;
-      joined = zero-more (total joins os) i;
-      evicted = zero-more (total evicts os) i;
-      passed = zero-more (total passes os) i;
-      served = zero-more (total serves os) i;
-      turned = zero-more (total turns os) i;
-      idle = zero-more (total idles os) i;
+      joined = zero-more (total (λ k. k .joined) os) i;
+      evicted = zero-more (total (λ k. k .evicted) os) i;
+      passed = zero-more (total (λ k. k .passed) os) i;
+      served = zero-more (total (λ k. k .served) os) i;
+      turned = zero-more (total (λ k. k .turned) os) i;
+      idle = zero-more (total (λ k. k .idle) os) i;
     }
 
 -- what a run still reports and draws
@@ -56,17 +56,17 @@ stopped r P b s n k = (
   λ i. record {
     stop = k .number i;
     done = (ap (λ (cs : List Command). r .done + length cs) (k .nothing) ∙ add-zero (r .done)) i;
-    joined = without joins (r .joined) i;
-    evicted = without evicts (r .evicted) i;
-    passed = without passes (r .passed) i;
-    served = without serves (r .served) i;
-    turned = without turns (r .turned) i;
-    idle = without idles (r .idle) i;
+    joined = without (λ k. k .joined) (r .joined) i;
+    evicted = without (λ k. k .evicted) (r .evicted) i;
+    passed = without (λ k. k .passed) (r .passed) i;
+    served = without (λ k. k .served) (r .served) i;
+    turned = without (λ k. k .turned) (r .turned) i;
+    idle = without (λ k. k .idle) (r .idle) i;
   },
   ap (nextAll P) (k .nothing),
 )
   where
-    without : (f : Outcome → ℕ) (m : ℕ) → m + total f (outcomes (P .size) (plain P) (carried b s)) ≡ m
+    without : (f : Totals → ℕ) (m : ℕ) → m + total f (outcomes (P .size) (plain P) (carried b s)) ≡ m
     without f m = ap (λ (cs : List Command). m + total f (outcomes (P .size) (plain P) cs)) (k .nothing) ∙ add-zero m
 
 -- it goes on: one more is counted, and the rest is a run from the next picture
@@ -77,12 +77,12 @@ goes r P b s v some whole e = (
   λ i. record {
     stop = k .0 i;
     done = counted i;
-    joined = more joins (r .joined) i;
-    evicted = more evicts (r .evicted) i;
-    passed = more passes (r .passed) i;
-    served = more serves (r .served) i;
-    turned = more turns (r .turned) i;
-    idle = more idles (r .idle) i;
+    joined = more (λ k. k .joined) (r .joined) i;
+    evicted = more (λ k. k .evicted) (r .evicted) i;
+    passed = more (λ k. k .passed) (r .passed) i;
+    served = more (λ k. k .served) (r .served) i;
+    turned = more (λ k. k .turned) (r .turned) i;
+    idle = more (λ k. k .idle) (r .idle) i;
   },
   ap (nextAll P) (k .1),
 )
@@ -96,10 +96,10 @@ goes r P b s v some whole e = (
     counted : r .done + length (carried (suc b) s) ≡ r .done + 1 + length (carried b (drop commandBytes s))
     counted = ap (λ (cs : List Command). r .done + length cs) (k .1) ∙ omega arith
 
-    more : (f : Outcome → ℕ) (m : ℕ) → m + total f (outcomes (P .size) (plain P) (carried (suc b) s))
-        ≡ m + f (outcome (P .size) (plain P) c) + total f (outcomes (next P c .size) (plain (next P c)) (carried b (drop commandBytes s)))
+    more : (f : Totals → ℕ) (m : ℕ) → m + total f (outcomes (P .size) (plain P) (carried (suc b) s))
+        ≡ m + f (adds (outcome (P .size) (plain P) c)) + total f (outcomes (next P c .size) (plain (next P c)) (carried b (drop commandBytes s)))
     more f m =
         let n = next-step P v c in
         ap (λ (cs : List Command). m + total f (outcomes (P .size) (plain P) cs)) (k .1)
-        ∙ (λ i. m + (f (outcome (P .size) (plain P) c) + total f (outcomes (sym (n .size) i) (sym (n .plain) i) (carried b (drop commandBytes s)))))
+        ∙ (λ i. m + (f (adds (outcome (P .size) (plain P) c)) + total f (outcomes (sym (n .size) i) (sym (n .plain) i) (carried b (drop commandBytes s)))))
         ∙ omega arith

@@ -10,7 +10,7 @@ use Rattle.rules.specs.History as history
 use Rattle.rules.specs.History.{Choice, joined, evicted, turned, Left, nothing, left, request, choice, slideLeft}
 use Rattle.rules.specs.Commands as commands
 use Rattle.rules.specs.Commands.{arriving, sliding, serving, ofChoice, ofSlide, ofServe, outcome, next}
-use Rattle.rules.specs.Run.{number}
+use Rattle.rules.specs.Run.{number, totals}
 use Rattle.rules.specs.Picture.{Picture, plain}
 use Rattle.rules.specs.Steps as steps
 use Rattle.rules.specs.Steps.{arrived, slid}
@@ -34,7 +34,7 @@ command-read s at e f =
 
 -- a report whose totals are those of one more command; a total that stays is counted by 0
 pub one-more : (r : Ran) (j e p s t i : ℕ) {J E P S T I : ℕ} → J ≡ r .joined + j → E ≡ r .evicted + e → P ≡ r .passed + p → S ≡ r .served + s → T ≡ r .turned + t → I ≡ r .idle + i
-    → _≡_ {A = Ran} (record { stop = r .stop; done = r .done + 1; joined = J; evicted = E; passed = P; served = S; turned = T; idle = I }) (counted r j e p s t i)
+    → _≡_ {A = Ran} (record { stop = r .stop; done = r .done + 1; joined = J; evicted = E; passed = P; served = S; turned = T; idle = I }) (counted r (totals j e p s t i))
 one-more r _ _ _ _ _ _ a b c d e f =
     λ x. record { stop = r .stop; done = r .done + 1; joined = a x; evicted = b x; passed = c x; served = d x; turned = e x; idle = f x }
 

@@ -4,7 +4,7 @@ use Prim.Native.Nat.{ℕ}
 use lib.ListN.{length}
 use Rattle.rules.specs.History.{Waiting}
 use Rattle.rules.specs.Commands.{Outcome}
-use Rattle.rules.specs.Run.{stop, carried, outcomes, joins, evicts, passes, serves, turns, idles, total}
+use Rattle.rules.specs.Run.{stop, carried, outcomes, total}
 use Rattle.rules.specs.Picture.{Picture, plain}
 use Rattle.run.specs.declared.Ran.{Ran}
 
@@ -15,12 +15,12 @@ reportOf q w b s =
     record {
       stop = stop b s;
       done = length (carried b s);
-      joined = total joins os;
-      evicted = total evicts os;
-      passed = total passes os;
-      served = total serves os;
-      turned = total turns os;
-      idle = total idles os;
+      joined = total (λ k. k .joined) os;
+      evicted = total (λ k. k .evicted) os;
+      passed = total (λ k. k .passed) os;
+      served = total (λ k. k .served) os;
+      turned = total (λ k. k .turned) os;
+      idle = total (λ k. k .idle) os;
     }
 
 -- from a picture: what the commands before the stop come to, and the report

@@ -4,7 +4,8 @@ use mathlib.Core.List.{List}
 use Prim.Native.Nat.{ℕ, _+_, _≤_}
 use Rattle.rules.specs.Commands as commands
 use Rattle.rules.specs.Commands.{Outcome}
-use Rattle.rules.specs.Run.{kindOf, idIn, ticketIn, known, commandOf, joins, evicts, passes, serves, turns, idles}
+use Rattle.rules.specs.Run.{kindOf, idIn, ticketIn, known, commandOf, Totals, totals, adds}
+use Rattle.steps.specs.Replies.{asRequest}
 use Rattle.steps.specs.declared.Arrived.{Arrived}
 use Rattle.steps.specs.declared.Arrived.the-variants as arrived
 use Rattle.steps.specs.declared.Slid.{Slid}
@@ -42,39 +43,39 @@ halted n r =
       idle = r .idle;
     }
 
--- the report after one more command
-abbrev pub counted : Ran → ℕ → ℕ → ℕ → ℕ → ℕ → ℕ → Ran
-counted r j e p s t i =
+-- the report after one more command, which adds k to the totals
+abbrev pub counted : Ran → Totals → Ran
+counted r k =
     record {
       stop = r .stop;
       done = r .done + 1;
-      joined = r .joined + j;
-      evicted = r .evicted + e;
-      passed = r .passed + p;
-      served = r .served + s;
-      turned = r .turned + t;
-      idle = r .idle + i;
+      joined = r .joined + k .joined;
+      evicted = r .evicted + k .evicted;
+      passed = r .passed + k .passed;
+      served = r .served + k .served;
+      turned = r .turned + k .turned;
+      idle = r .idle + k .idle;
     }
 
 -- by what the command came to
 abbrev pub tally : Ran → Outcome → Ran
-tally r o = counted r (joins o) (evicts o) (passes o) (serves o) (turns o) (idles o)
+tally r o = counted r (adds o)
 
 -- by what the step answered
 abbrev pub talliedArrive : Ran → Arrived → Ran
-talliedArrive r arrived.Joined = counted r 1 0 0 0 0 0
-talliedArrive r (arrived.Evicted x) = counted r 1 1 0 0 0 0
-talliedArrive r arrived.Turned = counted r 0 0 0 0 1 0
-talliedArrive r (arrived.Refused n) = counted r 0 0 0 0 0 0
+talliedArrive r arrived.Joined = tally r commands.joined
+talliedArrive r (arrived.Evicted x) = tally r (commands.evicted (asRequest x))
+talliedArrive r arrived.Turned = tally r commands.turned
+talliedArrive r (arrived.Refused n) = counted r (totals 0 0 0 0 0 0)
 
 abbrev pub talliedSlide : Ran → Slid → Ran
-talliedSlide r slid.Joined = counted r 1 0 0 0 0 0
-talliedSlide r (slid.Passed x) = counted r 1 0 1 0 0 0
-talliedSlide r (slid.Refused n) = counted r 0 0 0 0 0 0
+talliedSlide r slid.Joined = tally r commands.joined
+talliedSlide r (slid.Passed x) = tally r (commands.passed (asRequest x))
+talliedSlide r (slid.Refused n) = counted r (totals 0 0 0 0 0 0)
 
 abbrev pub talliedServe : Ran → Served → Ran
-talliedServe r (served.Left x) = counted r 0 0 0 1 0 0
-talliedServe r (served.Refused n) = counted r 0 0 0 0 0 1
+talliedServe r (served.Left x) = tally r (commands.served (asRequest x))
+talliedServe r (served.Refused n) = tally r commands.idle
 
 -- no total passes n, and n + 1 is a 64-bit number
 pub record Within (n : ℕ) (r : Ran) : Type 0 where
