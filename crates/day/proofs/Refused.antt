@@ -1,8 +1,7 @@
 -- A refused run leaves the day record as it was.
-use mathlib.Core.Path.{_≡_, _∙_}
-use Prim.Native.Nat.{ℕ, _+_, _≤_}
+use mathlib.Core.Path.{_≡_}
+use Prim.Native.Nat.{ℕ, _≤_}
 use native.Mathlib.Nat.{add-zero}
-use native.Mathlib.Omega.{arith}
 use borrow.Author.Tests.{le-leb}
 use Rattle.run.specs.Tally.{none, halted}
 use Rattle.day.specs.declared.Day.{Day}

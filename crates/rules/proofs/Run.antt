@@ -1,12 +1,11 @@
 -- Laws of the run: a command on a right picture, commands one after the other, and the stop rule test by test.
-use mathlib.Core.Bool.{Bool, true, false}
+use mathlib.Core.Bool.{true, false}
 use mathlib.Core.List.{List, [], _∷_}
-use mathlib.Core.Path.{_≡_, refl, sym, ap, _∙_}
+use mathlib.Core.Path.{_≡_, refl, _∙_}
 use Prim.Native.Nat.{ℕ, zero, suc, _+_, _≤_, _<_}
 use native.Mathlib.Omega.{arith}
 use lib.ListN.{length, drop}
 use borrow.Author.Tests.{eq-eqb, ne-eqb, lt-ltb, le-ltb}
-use Rattle.rules.specs.History.{Waiting}
 use Rattle.rules.specs.Picture.{Picture, plain}
 use Rattle.rules.specs.Commands.{Command, arriving, sliding, serving, Outcome, joined, evicted, turned, passed, served, idle, step, next}
 use Rattle.rules.specs.Run.{commandBytes, kindOf, idIn, ticketIn, known, commandOf, stop, carried, after, nextAll, adds, total}

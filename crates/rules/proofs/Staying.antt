@@ -1,17 +1,16 @@
 -- After an item of one client left, every other client stands in its row with its id.
-use mathlib.Core.Bool.{Bool, true, false, cond}
 use mathlib.Core.List.{List, map}
-use mathlib.Core.Logic.{inl, inr, ⊎-elim}
-use mathlib.Core.Path.{_≡_, refl, sym, ap, ap₂, _∙_, subst}
+use mathlib.Core.Logic.{inr, ⊎-elim}
+use mathlib.Core.Path.{_≡_, refl, sym, ap₂, _∙_, subst}
 use Prim.Native.Nat.{ℕ}
 use lib.Dec.{eqb}
 use borrow.Author.Tests.{ne-eqb}
 use Rattle.rules.specs.Rows.{In, NotIn, Distinct}
 use Rattle.rules.specs.Picture.{Item, Client, Picture, client, clientRow, clientId, clientRows, countOf, idOf}
-use Rattle.rules.specs.Steps.{place, moved, withoutItem, dropItem, release, leave}
+use Rattle.rules.specs.Steps.{moved, withoutItem, dropItem, release, leave}
 use Rattle.rules.specs.Sound.{Right}
 use Rattle.rules.proofs.Choose.{either-way}
-use Rattle.rules.proofs.Put.{Put, put-map, put-in, take-in, take-all, put-fresh}
+use Rattle.rules.proofs.Put.{Put, put-map, put-in, take-in, put-fresh}
 use Rattle.rules.proofs.Rows.{not-both}
 use Rattle.rules.proofs.Look.{find, put-look}
 use Rattle.rules.proofs.Right.{clients-distinct}

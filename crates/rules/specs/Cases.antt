@@ -1,12 +1,9 @@
 -- The whiteboard's cases that are proved: the session at Q = 4, word by word, and the two cases from Q = 1.
-use mathlib.Core.Bool.{Bool, true, false, _&&_}
+use mathlib.Core.Bool.{Bool, _&&_}
 use mathlib.Core.List.{List, [], _∷_}
 use Prim.Native.Nat.{ℕ}
-use lib.Dec.{eqb}
-use lib.ListN.{length}
-use Rattle.table.specs.Kind as kind
 use Rattle.rules.specs.Rows.{same}
-use Rattle.rules.specs.History.{Request, request, heaviest, oldestTicket, newestTicket}
+use Rattle.rules.specs.History.{request, heaviest, oldestTicket, newestTicket}
 use Rattle.rules.specs.Commands.{Command, arriving, sliding, serving, Outcome, joined, evicted, turned, passed, served, idle, outcome, step, next}
 use Rattle.rules.specs.Picture.{Picture, plain}
 use Rattle.rules.specs.Draw.{draw}

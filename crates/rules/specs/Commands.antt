@@ -1,5 +1,4 @@
 -- The three commands: what each comes to, and what carrying it out does to the plain history and to a picture.
-use mathlib.Core.Bool.{cond}
 use Prim.Native.Nat.{ℕ}
 use Rattle.rules.specs.History.{Request, Waiting, Choice, Left, nothing, left, choice, arrive, slideLeft, slide, serve}
 use Rattle.rules.specs.History as history

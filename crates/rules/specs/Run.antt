@@ -1,10 +1,10 @@
 -- The run: what its bytes say, where it stops, which commands it carries out, and what they come to by the plain history.
-use mathlib.Core.Bool.{Bool, true, false, cond, _&&_, _||_}
+use mathlib.Core.Bool.{Bool, cond, _&&_, _||_}
 use mathlib.Core.List.{List, [], _∷_}
 use Prim.Native.Nat.{ℕ, zero, suc, _+_, _*_}
 use lib.Dec.{ltb, eqb}
 use lib.ListN.{length, drop, getD}
-use Rattle.rules.specs.History.{Request, Waiting, request}
+use Rattle.rules.specs.History.{Waiting, request}
 use Rattle.rules.specs.Picture.{Picture}
 use Rattle.rules.specs.Commands.{Command, arriving, sliding, serving, Outcome, joined, evicted, turned, passed, served, idle, outcome, step, next}
 

@@ -7,7 +7,7 @@ use lib.ListN.{length, replicate}
 use Rattle.table.specs.Kind as kind
 use Rattle.rules.specs.Rows.{headOr, lastOr, rest, without, has}
 use Rattle.rules.specs.Spread.{bucket}
-use Rattle.rules.specs.History.{Request, Choice, joined, evicted, turned, choice}
+use Rattle.rules.specs.History.{Choice, joined, evicted, turned, choice}
 use Rattle.rules.specs.Picture.{Item, Client, Picture, item, client, clientId, clientRows, countOf, idOf, rowOf, plain}
 
 -- n numbers, counted up from one

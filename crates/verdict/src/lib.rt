@@ -1,7 +1,7 @@
 // The verdict on lent words: the tests in document 01's order, the last of them put together from the layers' parts of the soundness check.
 // It asks nothing of the words.
 ghost use mathlib.Core.Path.{_≡_};
-ghost use Prim.Native.Nat.{ℕ, _+_, _≤_, _<_};
+ghost use Prim.Native.Nat.{_+_, _≤_, _<_};
 ghost use lib.ListN.{getD};
 ghost use Rattle.table.specs.Kind as kind;
 ghost use Rattle.table.specs.Regions.{Sized};

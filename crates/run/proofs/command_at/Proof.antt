@@ -1,8 +1,5 @@
 -- Each part is read at its place. Assumes nothing.
 use Rattle.run.proofs.Tally.{command-read}
-use mathlib.Core.Path.{refl}
-use lib.Seq.{getD-drop, drop-drop}
-use native.Mathlib.Nat.{add-zero}
 use borrow.Author.Needs.{needs}
 use Rattle.run.proofs.command_at.Statement.{statement}
 use Rattle.run.proofs.command_at.Tie as tie

@@ -1,5 +1,4 @@
 -- Each test in turn. Assumes nothing.
-use mathlib.Core.Path.{_≡_}
 use borrow.Author.Tests.{eq-eqb, ne-eqb}
 use borrow.Author.Needs.{needs}
 use Rattle.run.proofs.known.Statement.{statement}
