@@ -1,6 +1,6 @@
-/* Measures the proved archive beside the careful C program, HL-HITTERS on Boost and direct counting, on the same commands.
-   `bench times` prints medians of interleaved repetitions, `bench instructions` is run under callgrind and dumps a count for each
-   part. Both assert that the archive and the C program leave the same words, and that all four give the same sums. */
+/* Measures the proved archive beside the careful C program in its two forms, HL-HITTERS on Boost and direct counting, on the same
+   commands. `bench times` prints medians of interleaved repetitions, `bench instructions` is run under callgrind and dumps a count
+   for each part. Both assert that the archive and the C programs leave the same words, and that all give the same sums. */
 #include "boomspool.h"
 #include "flat.h"
 #include "rivals.h"
@@ -78,8 +78,8 @@ static void write_commands(const struct mix *mix, size_t q, size_t n) {
     }
 }
 
-/* The four programs at one Q, all in the same state. */
-static uint32_t ours[MOST_WORDS], theirs[MOST_WORDS];
+/* The programs at one Q, all in the same state. */
+static uint32_t ours[MOST_WORDS], theirs[MOST_WORDS], narrows[MOST_WORDS];
 static size_t words;
 static struct hitters *hitters;
 static struct direct *direct;
@@ -90,16 +90,27 @@ static struct direct *direct;
 static size_t batch;
 static volatile uint64_t sink;
 
-static void ours_check(void) {
+/* A dozen tables of the mix, checked in turn: a processor learns the branches of one that is checked over and over. */
+enum { TABLES = 12 };
+static uint32_t tables[TABLES][MOST_WORDS];
+
+static void ours_checks(void) {
     for (size_t i = 0; i < batch; i++) {
-        sink += boomspool_count(ours, words, ABSENT_ID).number;
+        sink += boomspool_count(tables[i % TABLES], words, ABSENT_ID).number;
     }
 }
 
-static void flat_check_part(void) {
+static void flat_checks(void) {
     for (size_t i = 0; i < batch; i++) {
         uint32_t count;
-        sink += flat_count(theirs, words, ABSENT_ID, &count);
+        sink += flat_count(tables[i % TABLES], words, ABSENT_ID, &count);
+    }
+}
+
+static void narrow_checks(void) {
+    for (size_t i = 0; i < batch; i++) {
+        uint32_t count;
+        sink += narrow_count(tables[i % TABLES], words, ABSENT_ID, &count);
     }
 }
 
@@ -126,7 +137,7 @@ static void flat_single(void) {
 }
 
 /* Sums of the last run of each program. */
-enum program { OURS, FLAT, HITTERS, DIRECT, PROGRAMS };
+enum program { OURS, FLAT, NARROW, HITTERS, DIRECT, PROGRAMS };
 static struct flat_sums sums[PROGRAMS];
 
 static void ours_run(void) {
@@ -138,14 +149,16 @@ static void ours_empty_run(void) { sink += boomspool_run(ours, words, commands, 
 
 static void flat_run_part(void) { sums[FLAT] = flat_run(theirs, words, commands, 9 * batch, UINT64_MAX); }
 static void flat_empty_run(void) { sink += flat_run(theirs, words, commands, 0, UINT64_MAX).stop; }
+static void narrow_run_part(void) { sums[NARROW] = narrow_run(narrows, words, commands, 9 * batch, UINT64_MAX); }
+static void narrow_empty_run(void) { sink += narrow_run(narrows, words, commands, 0, UINT64_MAX).stop; }
 static void hitters_run_part(void) { sums[HITTERS] = hitters_run(hitters, commands, 9 * batch); }
 static void direct_run_part(void) { sums[DIRECT] = direct_run(direct, commands, 9 * batch); }
 
-/* The archive and the C program have the same words, and Boost and direct counting the same heaviest clients. */
+/* The archive and the C programs have the same words, and Boost and direct counting the same heaviest clients. */
 static void assert_same_state(bool with_direct) {
     static uint32_t a[2 * LARGEST], b[2 * LARGEST];
-    if (memcmp(ours, theirs, words * sizeof ours[0]) != 0) {
-        fail("the archive and the C program leave other words");
+    if (memcmp(ours, theirs, words * sizeof ours[0]) != 0 || memcmp(ours, narrows, words * sizeof ours[0]) != 0) {
+        fail("the archive and the C programs leave other words");
     }
     size_t clients = boomspool_heaviest(ours, words, SIZE_MAX, a, 2 * LARGEST).pairs;
     if (hitters_heaviest(hitters, b, LARGEST) != clients || memcmp(a, b, 2 * clients * sizeof a[0]) != 0) {
@@ -164,8 +177,9 @@ static void assert_same_sums(size_t programs) {
     }
 }
 
-/* Carries a single-call batch out on all programs, so that their states stay the same. */
+/* Carries a single-call batch out on the other programs, so that their states stay the same. */
 static void follow_singles(void) {
+    narrow_run_part();
     hitters_run_part();
     direct_run_part();
 }
@@ -174,16 +188,19 @@ static void follow_singles(void) {
 static void begin(size_t q, const struct mix *mix) {
     dice = 1 + q;
     words = boomspool_words(q);
-    if (boomspool_lay_out(ours, words, q) != 0 || flat_lay_out(theirs, words, q) != 0) {
+    if (boomspool_lay_out(ours, words, q) != 0 || flat_lay_out(theirs, words, q) != 0 || narrow_lay_out(narrows, words, q) != 0) {
         fail("lay-out");
     }
     hitters = hitters_new(q);
     direct = direct_new(q);
     batch = q < 50 ? 200 : 3 * q;
-    write_commands(mix, q, batch);
-    ours_single();
-    flat_single();
-    follow_singles();
+    for (size_t k = 0; k < TABLES; k++) {
+        write_commands(mix, q, batch);
+        ours_run();
+        flat_run_part();
+        follow_singles();
+        memcpy(tables[k], ours, words * sizeof ours[0]);
+    }
     assert_same_state(true);
 }
 
@@ -228,15 +245,18 @@ static struct series ratio(struct series a, struct series b) {
 }
 
 static void time_checks(size_t q, const struct mix *mix) {
-    struct series a, b;
-    batch = q < 50 ? 2000 : 20000 / q;
+    struct series a, b, c;
+    batch = q < 50 ? 100 * TABLES : q < 100 ? 20 * TABLES : 2 * TABLES;
     for (size_t i = 0; i < repeats; i++) {
-        a.value[i] = time_of(ours_check) / (double)batch;
-        b.value[i] = time_of(flat_check_part) / (double)batch;
+        a.value[i] = time_of(ours_checks) / (double)batch;
+        b.value[i] = time_of(flat_checks) / (double)batch;
+        c.value[i] = time_of(narrow_checks) / (double)batch;
     }
     print_series(q, mix, "check", "archive", a);
     print_series(q, mix, "check", "C", b);
+    print_series(q, mix, "check", "narrow", c);
     print_series(q, mix, "check", "archive/C", ratio(a, b));
+    print_series(q, mix, "check", "archive/narrow", ratio(a, c));
 }
 
 static void time_singles(size_t q, const struct mix *mix) {
@@ -261,6 +281,7 @@ static void time_runs(size_t q, const struct mix *mix) {
     for (size_t i = 0; i < repeats; i++) {
         write_commands(mix, q, batch);
         t[FLAT].value[i] = (time_of(flat_run_part) - time_of(flat_empty_run)) / (double)batch;
+        t[NARROW].value[i] = (time_of(narrow_run_part) - time_of(narrow_empty_run)) / (double)batch;
         t[HITTERS].value[i] = time_of(hitters_run_part) / (double)batch;
         t[OURS].value[i] = (time_of(ours_run) - time_of(ours_empty_run)) / (double)batch;
         assert_same_sums(DIRECT);
@@ -268,10 +289,11 @@ static void time_runs(size_t q, const struct mix *mix) {
     }
     print_series(q, mix, "run", "archive", t[OURS]);
     print_series(q, mix, "run", "archive/C", ratio(t[OURS], t[FLAT]));
+    print_series(q, mix, "run", "archive/narrow", ratio(t[OURS], t[NARROW]));
     print_series(q, mix, "run", "archive/Boost", ratio(t[OURS], t[HITTERS]));
     print_series(q, mix, "run", "C", t[FLAT]);
+    print_series(q, mix, "run", "narrow", t[NARROW]);
     print_series(q, mix, "run", "Boost", t[HITTERS]);
-    print_series(q, mix, "run", "Boost/C", ratio(t[HITTERS], t[FLAT]));
 }
 
 static void time_direct(size_t q, const struct mix *mix) {
@@ -298,9 +320,10 @@ static void count_of(size_t q, const struct mix *mix, const char *what, const ch
 }
 
 static void count_instructions(size_t q, const struct mix *mix) {
-    batch = 10;
-    count_of(q, mix, "check", "archive", batch, ours_check);
-    count_of(q, mix, "check", "C", batch, flat_check_part);
+    batch = TABLES;
+    count_of(q, mix, "check", "archive", batch, ours_checks);
+    count_of(q, mix, "check", "C", batch, flat_checks);
+    count_of(q, mix, "check", "narrow", batch, narrow_checks);
     batch = q < 100 ? 400 : 40;
     write_commands(mix, q, batch);
     count_of(q, mix, "single", "archive", batch, ours_single);
@@ -311,6 +334,8 @@ static void count_instructions(size_t q, const struct mix *mix) {
     write_commands(mix, q, batch);
     count_of(q, mix, "run", "C", batch, flat_run_part);
     count_of(q, mix, "empty run", "C", 1, flat_empty_run);
+    count_of(q, mix, "run", "narrow", batch, narrow_run_part);
+    count_of(q, mix, "empty run", "narrow", 1, narrow_empty_run);
     count_of(q, mix, "run", "Boost", batch, hitters_run_part);
     count_of(q, mix, "run", "archive", batch, ours_run);
     count_of(q, mix, "empty run", "archive", 1, ours_empty_run);

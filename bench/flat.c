@@ -39,7 +39,12 @@ static inline uint32_t *ends(struct view v, uint32_t count) { return v.counts + 
 
 static inline uint32_t bucket(uint32_t id, uint32_t q) {
     uint64_t sum = (uint64_t)spread[id & 255] + spread[256 + (id >> 8 & 255)] + spread[512 + (id >> 16 & 255)] + spread[768 + (id >> 24)];
+#ifdef NARROW
+    uint32_t x = 2 * ((uint32_t)(sum / 2) % q) + (uint32_t)(sum % 2);
+    return x < q ? x : x - q;
+#else
     return (uint32_t)(sum % q);
+#endif
 }
 
 static inline uint32_t find(struct view v, uint32_t id) {

@@ -1,4 +1,5 @@
-/* A careful C program on the same flat table: same words, same replies, same refusals. The proved archive is measured against it. */
+/* A careful C program on the same flat table: same words, same replies, same refusals. The proved archive is measured against it.
+   flat.c is compiled twice: as it stands, and with NARROW as `narrow_..`, whose remainder is one of 32 bits. */
 #ifndef FLAT_H
 #define FLAT_H
 #include <stddef.h>
@@ -23,6 +24,11 @@ uint32_t flat_count(const uint32_t *t, size_t words, uint32_t id, uint32_t *coun
 
 /* Checks once, then carries the commands out. */
 struct flat_sums flat_run(uint32_t *t, size_t words, const uint8_t *commands, size_t bytes, uint64_t budget);
+
+/* The same with NARROW. */
+uint32_t narrow_lay_out(uint32_t *t, size_t words, size_t q);
+uint32_t narrow_count(const uint32_t *t, size_t words, uint32_t id, uint32_t *count);
+struct flat_sums narrow_run(uint32_t *t, size_t words, const uint8_t *commands, size_t bytes, uint64_t budget);
 
 #ifdef __cplusplus
 }

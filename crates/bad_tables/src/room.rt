@@ -79,7 +79,7 @@ fn lay_outs() {
     lay_out(WORDS, 18_446_744_073_709_551_615);
     lay_out(0, 0);
     lay_out(0, Q);
-    lay_out(LinkedTable::HEADER - 1, Q);
+    lay_out(LinkedTable::HEADER_WORDS - 1, Q);
     lay_out(SIZE - 1, Q);
     lay_out(SIZE, Q);
     lay_out(WORDS, Q);

@@ -6,7 +6,7 @@ use table::LinkedTable;
 // Six places, and eight words beyond the table.
 pub const Q: usize = 6;
 
-pub const SIZE: usize = LinkedTable::HEADER + LinkedTable::PLACE * Q;
+pub const SIZE: usize = LinkedTable::HEADER_WORDS + LinkedTable::PLACE_WORDS * Q;
 
 pub const WORDS: usize = SIZE + 8;
 
@@ -19,13 +19,13 @@ pub const NONE: u32 = LinkedTable::NONE;
 pub fn item(r: usize, f: usize) -> usize
     requires { ⌜ (r < 6) × (f < kind.itemWords) ⌝ }
 {
-    LinkedTable::HEADER + LinkedTable::ITEM * r + f
+    LinkedTable::HEADER_WORDS + LinkedTable::ITEM_WORDS * r + f
 }
 
 pub fn client(r: usize, f: usize) -> usize
     requires { ⌜ (r < 6) × (f < kind.clientWords) ⌝ }
 {
-    LinkedTable::HEADER + LinkedTable::ITEM * Q + LinkedTable::CLIENT * r + f
+    LinkedTable::HEADER_WORDS + LinkedTable::ITEM_WORDS * Q + LinkedTable::CLIENT_WORDS * r + f
 }
 
 // The ends of the group of count n.
@@ -33,13 +33,13 @@ pub fn group(n: usize, f: usize) -> usize
     requires { ⌜ (0 < n) × (n < 7) ⌝ }
     requires { ⌜ f < kind.countWords ⌝ }
 {
-    LinkedTable::HEADER + LinkedTable::TO_COUNTS * Q + LinkedTable::COUNT * (n - 1) + f
+    LinkedTable::HEADER_WORDS + LinkedTable::TO_COUNTS * Q + LinkedTable::COUNT_WORDS * (n - 1) + f
 }
 
 pub fn bucket(b: usize) -> usize
     requires { ⌜ b < 6 ⌝ }
 {
-    LinkedTable::HEADER + LinkedTable::TO_BUCKETS * Q + b
+    LinkedTable::HEADER_WORDS + LinkedTable::TO_BUCKETS * Q + b
 }
 
 // The same words but for one.

@@ -15,14 +15,8 @@ ghost use Rattle.limiter.specs.Runs.{runAnswer, runWords};
 ghost use Rattle.boomspool.specs.Runs.{runDay};
 ghost use Rattle.boomspool.specs.Replies.{wordsOf, arrivedStruct, arrivedFields, slidStruct, slidFields, servedStruct, servedFields, listedStruct, listedFields, countedStruct, countedFields, toldStruct, toldFields};
 use day::Day;
-use limiter::Counted;
-use questions::Listed;
-use questions::Told;
-use run::Ran;
-use steps::Arrived;
-use steps::Served;
-use steps::Slid;
-use table::LinkedTable;
+use answers::{Arrived, Counted, Listed, Ran, Report, Served, Slid, Told};
+use table::{LinkedTable, Ticket};
 
 // The reply to an arrival: what happened, and the request that left for it.
 #[repr(C)]
@@ -30,7 +24,7 @@ pub struct BoomspoolArrived {
     pub number: u32,
     pub happened: u32,
     pub id: u32,
-    pub ticket: u32,
+    pub ticket: Ticket,
 }
 
 // The reply to a slide: whether a request passed, and which.
@@ -39,7 +33,7 @@ pub struct BoomspoolSlid {
     pub number: u32,
     pub passed: u32,
     pub id: u32,
-    pub ticket: u32,
+    pub ticket: Ticket,
 }
 
 // The reply to serve: the request that left.
@@ -47,7 +41,7 @@ pub struct BoomspoolSlid {
 pub struct BoomspoolServed {
     pub number: u32,
     pub id: u32,
-    pub ticket: u32,
+    pub ticket: Ticket,
 }
 
 // The reply to a listing: how many pairs were written.
@@ -68,7 +62,20 @@ pub struct BoomspoolCounted {
 #[repr(C)]
 pub struct BoomspoolTold {
     pub number: u32,
-    pub ticket: u32,
+    pub ticket: Ticket,
+}
+
+// What a run reports: where it stopped, how many commands it carried out, and the six totals.
+#[repr(C)]
+pub struct BoomspoolRan {
+    pub stop: u32,
+    pub done: u64,
+    pub joined: u64,
+    pub evicted: u64,
+    pub passed: u64,
+    pub served: u64,
+    pub turned: u64,
+    pub idle: u64,
 }
 
 // An answer of the limiter as the struct that C gets, for each call.
@@ -94,8 +101,8 @@ fn arrived_reply(a: Arrived) -> BoomspoolArrived
             id: 0,
             ticket: 0,
         },
-        Arrived::Refused(n) => BoomspoolArrived {
-            number: n,
+        Arrived::Refused(r) => BoomspoolArrived {
+            number: r.number,
             happened: 0,
             id: 0,
             ticket: 0,
@@ -119,8 +126,8 @@ fn slid_reply(a: Slid) -> BoomspoolSlid
             id: front.id,
             ticket: front.ticket,
         },
-        Slid::Refused(n) => BoomspoolSlid {
-            number: n,
+        Slid::Refused(r) => BoomspoolSlid {
+            number: r.number,
             passed: 0,
             id: 0,
             ticket: 0,
@@ -137,8 +144,8 @@ fn served_reply(a: Served) -> BoomspoolServed
             id: first.id,
             ticket: first.ticket,
         },
-        Served::Refused(n) => BoomspoolServed {
-            number: n,
+        Served::Refused(r) => BoomspoolServed {
+            number: r.number,
             id: 0,
             ticket: 0,
         },
@@ -153,8 +160,8 @@ fn listed_reply(a: Listed) -> BoomspoolListed
             number: 0,
             pairs: n,
         },
-        Listed::Refused(n) => BoomspoolListed {
-            number: n,
+        Listed::Refused(r) => BoomspoolListed {
+            number: r.number,
             pairs: 0,
         },
     }
@@ -168,8 +175,8 @@ fn counted_reply(a: Counted) -> BoomspoolCounted
             number: 0,
             count: n,
         },
-        Counted::Refused(n) => BoomspoolCounted {
-            number: n,
+        Counted::Refused(r) => BoomspoolCounted {
+            number: r.number,
             count: 0,
         },
     }
@@ -183,9 +190,43 @@ fn told_reply(a: Told) -> BoomspoolTold
             number: 0,
             ticket: n,
         },
-        Told::Refused(n) => BoomspoolTold {
-            number: n,
+        Told::Refused(r) => BoomspoolTold {
+            number: r.number,
             ticket: 0,
+        },
+    }
+}
+
+fn reported(r: Report) -> BoomspoolRan
+    ensures { λ x. ⌜ x ≡ reportStruct r ⌝ }
+{
+    BoomspoolRan {
+        stop: r.stop,
+        done: r.done,
+        joined: r.joined,
+        evicted: r.evicted,
+        passed: r.passed,
+        served: r.served,
+        turned: r.turned,
+        idle: r.idle,
+    }
+}
+
+// A refused run reports its number in the stop's place, and nothing carried out.
+fn ran_reply(a: Ran) -> BoomspoolRan
+    ensures { λ r. ⌜ r ≡ ranStruct a ⌝ }
+{
+    match a {
+        Ran::Reported(r) => reported(r),
+        Ran::Refused(r) => BoomspoolRan {
+            stop: r.number,
+            done: 0,
+            joined: 0,
+            evicted: 0,
+            passed: 0,
+            served: 0,
+            turned: 0,
+            idle: 0,
         },
     }
 }
@@ -213,7 +254,7 @@ pub extern "C" fn boomspool_lay_out(t: &mut [u32], q: usize) -> u32
 
 // A request arrives: it joins, a request of the heaviest client leaves for it, or its client is turned away.
 #[no_mangle]
-pub extern "C" fn boomspool_arrive(t: &mut [u32], id: u32, ticket: u32) -> BoomspoolArrived
+pub extern "C" fn boomspool_arrive(t: &mut [u32], id: u32, ticket: Ticket) -> BoomspoolArrived
     ensures reply { λ r. ⌜ r ≡ arrivedStruct (arriveAnswer id (now (t .entry))) ⌝ }
     ensures numbers { λ r. ⌜ arrivedFields r ≡ numbersOf (arriveNumber (now (t .entry))) (choiceValues (arriveChoice id (now (t .entry)))) ⌝ }
     ensures words { λ _. ⌜ now (t .exit) ≡ afterwards (λ P. steps.arrived P id ticket) (now (t .entry)) ⌝ }
@@ -224,7 +265,7 @@ pub extern "C" fn boomspool_arrive(t: &mut [u32], id: u32, ticket: u32) -> Booms
 
 // A request joins; where the window is full, the front request passes first.
 #[no_mangle]
-pub extern "C" fn boomspool_slide(t: &mut [u32], id: u32, ticket: u32) -> BoomspoolSlid
+pub extern "C" fn boomspool_slide(t: &mut [u32], id: u32, ticket: Ticket) -> BoomspoolSlid
     ensures reply { λ r. ⌜ r ≡ slidStruct (slideAnswer (now (t .entry))) ⌝ }
     ensures numbers { λ r. ⌜ slidFields r ≡ numbersOf (slideNumber (now (t .entry))) (slideValues (slideLeaves (now (t .entry)))) ⌝ }
     ensures words { λ _. ⌜ now (t .exit) ≡ afterwards (λ P. steps.slid P id ticket) (now (t .entry)) ⌝ }
@@ -293,11 +334,11 @@ pub extern "C" fn boomspool_newest(t: &[u32], id: u32) -> BoomspoolTold
 
 // Carries out commands of nine bytes until one of the four stops; the table is checked once.
 #[no_mangle]
-pub extern "C" fn boomspool_run(t: &mut [u32], commands: &[u8], budget: u64) -> Ran
-    ensures reply { λ r. ⌜ r ≡ runAnswer budget (now (commands .entry)) (now (t .entry)) ⌝ }
+pub extern "C" fn boomspool_run(t: &mut [u32], commands: &[u8], budget: u64) -> BoomspoolRan
+    ensures reply { λ r. ⌜ r ≡ ranStruct (runAnswer budget (now (commands .entry)) (now (t .entry))) ⌝ }
     ensures words { λ _. ⌜ now (t .exit) ≡ runWords budget (now (commands .entry)) (now (t .entry)) ⌝ }
 {
-    limiter::run(t, commands, budget)
+    ran_reply(limiter::run(t, commands, budget))
 }
 
 // The same, and the day record is brought up to date where it stands; a refused run leaves it.
@@ -307,12 +348,12 @@ pub extern "C" fn boomspool_run_day(
     commands: &[u8],
     budget: u64,
     day: &mut Day,
-) -> Ran
-    ensures reply { λ r. ⌜ r ≡ runAnswer budget (now (commands .entry)) (now (t .entry)) ⌝ }
+) -> BoomspoolRan
+    ensures reply { λ r. ⌜ r ≡ ranStruct (runAnswer budget (now (commands .entry)) (now (t .entry))) ⌝ }
     ensures words { λ _. ⌜ now (t .exit) ≡ runWords budget (now (commands .entry)) (now (t .entry)) ⌝ }
-    ensures totals { λ _. ⌜ now (day .exit) ≡ runDay budget (now (commands .entry)) (now (t .entry)) (now (day .entry)) ⌝ }
+    ensures totals { λ _. ⌜ now (day .exit) ≡ afterRun (now (day .entry)) (runAnswer budget (now (commands .entry)) (now (t .entry))) ⌝ }
 {
     let r = limiter::run(t, commands, budget);
     day::bring_up(day, r);
-    r
+    ran_reply(r)
 }

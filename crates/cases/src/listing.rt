@@ -4,7 +4,7 @@ use table::LinkedTable;
 
 pub const Q: usize = 4;
 
-pub const SIZE: usize = LinkedTable::HEADER + LinkedTable::PLACE * Q;
+pub const SIZE: usize = LinkedTable::HEADER_WORDS + LinkedTable::PLACE_WORDS * Q;
 
 // More pairs than any table has clients; twice it passes 64 bits.
 const K: usize = 18_446_744_073_709_551_615;

@@ -1,2 +1,2 @@
 -- Laws of the day record.
-pub mod Refused
+pub mod Added

@@ -1,2 +1,2 @@
 -- What the day record holds after a run.
-pub mod Totals
+pub mod Day

@@ -1,19 +1,14 @@
 // The host's day record: six totals, brought up to date where they stand by each run. Each stays at its largest value once there.
 ghost use mathlib.Core.Path.{_≡_};
-ghost use Rattle.day.specs.Totals.{sumOf, addedTo};
-use run::Ran;
+ghost use Rattle.day.specs.Day.{sumOf, totalsOf, added, afterRun};
+use answers::{Ran, Report};
 
-#[repr(C)]
-pub struct Day {
-    pub joined: u64,
-    pub evicted: u64,
-    pub passed: u64,
-    pub served: u64,
-    pub turned: u64,
-    pub idle: u64,
-}
+pub struct Day {}
 
 impl Day {
+    // How many totals it has: joined, evicted, passed, served, turned away, idle.
+    pub const TOTALS: usize = 6;
+
     // The largest value of a total.
     pub const LARGEST: u64 = 18446744073709551615;
 }
@@ -29,23 +24,30 @@ fn sum(a: u64, b: u64) -> u64
     }
 }
 
-// The record with what a run reports.
-pub fn added(d: Day, r: Ran) -> Day
-    ensures { λ s. ⌜ s ≡ addedTo d r ⌝ }
+// The totals of a report, as the record has them.
+fn totals(r: Report) -> [u64; Day::TOTALS]
+    ensures { λ t. ⌜ t ≡ totalsOf r ⌝ }
 {
-    Day {
-        joined: sum(d.joined, r.joined),
-        evicted: sum(d.evicted, r.evicted),
-        passed: sum(d.passed, r.passed),
-        served: sum(d.served, r.served),
-        turned: sum(d.turned, r.turned),
-        idle: sum(d.idle, r.idle),
+    [r.joined, r.evicted, r.passed, r.served, r.turned, r.idle]
+}
+
+// Each total of the record with more.
+fn add(day: &mut [u64; Day::TOTALS], more: [u64; Day::TOTALS])
+    ensures { λ _. ⌜ now (day .exit) ≡ added (now (day .entry)) more ⌝ }
+{
+    let mut k = 0;
+    while k < Day::TOTALS {
+        day[k] = sum(day[k], more[k]);
+        k += 1;
     }
 }
 
-// Brings the record up to date where it stands.
-pub fn bring_up(day: &mut Day, r: Ran)
-    ensures { λ _. ⌜ now (day .exit) ≡ addedTo (now (day .entry)) r ⌝ }
+// Brings the record up to date where it stands; a run that was refused leaves it.
+pub fn bring_up(day: &mut [u64; Day::TOTALS], r: Ran)
+    ensures { λ _. ⌜ now (day .exit) ≡ afterRun (now (day .entry)) r ⌝ }
 {
-    *day = added(*day, r);
+    match r {
+        Ran::Reported(report) => add(day, totals(report)),
+        Ran::Refused(_) => {}
+    }
 }

@@ -39,7 +39,7 @@ all-few : {q : ℕ} {t : List ℕ} → Ready q t → (cs : List Command) → alt
 all-few {t = t} y [] = omega (arith, unaltered y)
 all-few {q} {t} y (c ∷ cs) =
     let k = next-step (picture t) (ready-right y) c in
-    let j : Step q _ (next (picture t) c) = record { right = k .right; size = k .size ∙ y .size; plain = refl } in
+    let j : Step q _ (next (picture t) c) = record { right = k .right; places = k .places ∙ y .places; plain = refl } in
     let a : List ℕ = draw (next (picture t) c) in
     let r : Ready q a = drawn-ready j refl in
     let rest : altered a (draw (nextAll (next (picture t) c) cs)) ≤ 96 * length cs =
@@ -68,8 +68,8 @@ few-after cs t = go (eqb (verdict t) 0) refl
     go : (b : Bool) → eqb (verdict t) 0 ≡ b → Few (96 * length cs) t (cond b (draw (nextAll (picture (take (room t) t)) cs) ++ drop (room t) t) t)
     go true e =
         let y = accepted t (sym (eqb-true (verdict t) 0 e)) .ready in
-        let s = all-step (picture (take (room t) t)) (ready-right y) cs .size in
-        few-front (room t) t _ (drawn-long (nextAll (picture (take (room t) t)) cs) ∙ ap kind.size (s ∙ y .size) ∙ sym (ready-sized y .long), all-few y cs)
+        let s = all-step (picture (take (room t) t)) (ready-right y) cs .places in
+        few-front (room t) t _ (drawn-long (nextAll (picture (take (room t) t)) cs) ∙ ap kind.size (s ∙ y .places) ∙ sym (ready-sized y .long), all-few y cs)
     go false e = few-same (96 * length cs) t
 
 few-words : (c : Call) (t : List ℕ) → Few (96 * carriedOut c) t (words c t)

@@ -45,9 +45,9 @@ module _ (t : List ℕ) where
     listing which k out =
         ap₂ listed (given listTells.Refused (λ P. listedReply k (length out) (plain P))) (given (λ _. out) (λ P. listedWords which k (plain P) out))
 
-    answered : (c : Call) → reply c t ≡ plainReply (P .size) (plain P) c
-    answered (arriving id ticket) = ap arrived (given arriveTells.Refused (λ P. arrivedReply (history.choice (P .size) (plain P) id)))
-    answered (sliding id ticket) = ap slid (given slideTells.Refused (λ P. slidReply (history.slideLeft (P .size) (plain P))))
+    answered : (c : Call) → reply c t ≡ plainReply (P .places) (plain P) c
+    answered (arriving id ticket) = ap arrived (given arriveTells.Refused (λ P. arrivedReply (history.choice (P .places) (plain P) id)))
+    answered (sliding id ticket) = ap slid (given slideTells.Refused (λ P. slidReply (history.slideLeft (P .places) (plain P))))
     answered serving = ap served (given serveTells.Refused (λ P. servedReply (history.served (plain P))))
     answered (running bytes budget) = ap ran (given (λ n. halted n none) (λ P. reported P budget bytes))
     answered (heaviest k out) = listing history.heaviest k out
@@ -68,7 +68,7 @@ module _ (t : List ℕ) where
   not-answered e (newest id) = rw e
 
 -- each call keeps a picture right, and steps as the plain history does
-call-step : (c : Call) (P : Picture) → Right P → Step (P .size) (plainStep (P .size) (plain P) c) (pictureStep c P)
+call-step : (c : Call) (P : Picture) → Right P → Step (P .places) (plainStep (P .places) (plain P) c) (pictureStep c P)
 call-step (arriving id ticket) P v = arrive-step P v id ticket
 call-step (sliding id ticket) P v = slide-step P v id ticket
 call-step serving P v = serve-step P v
@@ -93,7 +93,7 @@ module _ (P : Picture) (v : Right P) where
   after-whole (newest id) rest = refl
 
   -- too few words of it are
-  after-short : (c : Call) (rest : List ℕ) (n : ℕ) → n < kind.size (P .size) → words c (take n (draw P ++ rest)) ≡ take n (draw P ++ rest)
+  after-short : (c : Call) (rest : List ℕ) (n : ℕ) → n < kind.size (P .places) → words c (take n (draw P ++ rest)) ≡ take n (draw P ++ rest)
   after-short (arriving id ticket) rest n h = short-after P v rest n h (λ P. steps.arrived P id ticket)
   after-short (sliding id ticket) rest n h = short-after P v rest n h (λ P. steps.slid P id ticket)
   after-short serving rest n h = short-after P v rest n h steps.served
@@ -106,21 +106,21 @@ module _ (P : Picture) (v : Right P) where
 
 -- what a call comes to
 pub record Comes (P : Picture) (rest : List ℕ) (l : Lent) : Type 0 where
-  pub answers : reply (l .call) (take (l .words) (draw P ++ rest)) ≡ plainAnswer (P .size) (plain P) l
+  pub answers : reply (l .call) (take (l .words) (draw P ++ rest)) ≡ plainAnswer (P .places) (plain P) l
   pub leaves : sliceAfter l (draw P ++ rest) ≡ draw (pictureNext P l) ++ rest
-  pub step : Step (P .size) (plainNext (P .size) (plain P) l) (pictureNext P l)
+  pub step : Step (P .places) (plainNext (P .places) (plain P) l) (pictureNext P l)
 
 module _ (P : Picture) (v : Right P) (rest : List ℕ) (l : Lent) where
   abbrev t : List ℕ
   t = draw P ++ rest
 
-  whole-lent : (m : ℕ) → (take (kind.size (P .size) + m) t ≡ draw P ++ take m rest) × (drop (kind.size (P .size) + m) t ≡ drop m rest)
+  whole-lent : (m : ℕ) → (take (kind.size (P .places) + m) t ≡ draw P ++ take m rest) × (drop (kind.size (P .places) + m) t ≡ drop m rest)
   whole-lent m = rw (← drawn-long P) (take-append-add (draw P) rest m, drop-append-add (draw P) rest m)
 
-  long-enough : short (P .size) l ≡ false → Comes P rest l
+  long-enough : short (P .places) l ≡ false → Comes P rest l
   long-enough e =
-      let m : ℕ = l .words - kind.size (P .size) in
-      let n : l .words ≡ kind.size (P .size) + m = omega (arith, ltb-false (l .words) (kind.size (P .size)) e) in
+      let m : ℕ = l .words - kind.size (P .places) in
+      let n : l .words ≡ kind.size (P .places) + m = omega (arith, ltb-false (l .words) (kind.size (P .places)) e) in
       let (a, b) = whole-lent m in
       let lent : take (l .words) t ≡ draw P ++ take m rest = ap (λ (k : ℕ). take k t) n ∙ a in
       let beyond : drop (l .words) t ≡ drop m rest = ap (λ (k : ℕ). drop k t) n ∙ b in
@@ -130,9 +130,9 @@ module _ (P : Picture) (v : Right P) (rest : List ℕ) (l : Lent) where
         step = rw e (call-step (l .call) P v);
       }
 
-  too-short : short (P .size) l ≡ true → Comes P rest l
+  too-short : short (P .places) l ≡ true → Comes P rest l
   too-short e =
-      let h : l .words < kind.size (P .size) = ltb-true (l .words) (kind.size (P .size)) e in
+      let h : l .words < kind.size (P .places) = ltb-true (l .words) (kind.size (P .places)) e in
       record {
         answers = rw e (not-answered (take (l .words) t) (short-refused P v rest (l .words) h) (l .call));
         leaves = rw (e, after-short P v (l .call) rest (l .words) h) (take-append-drop (l .words) t);
@@ -140,8 +140,8 @@ module _ (P : Picture) (v : Right P) (rest : List ℕ) (l : Lent) where
       }
 
   pub comes : Comes P rest l
-  comes = go (short (P .size) l) refl
+  comes = go (short (P .places) l) refl
     where
-      go : (b : Bool) → short (P .size) l ≡ b → Comes P rest l
+      go : (b : Bool) → short (P .places) l ≡ b → Comes P rest l
       go true e = too-short e
       go false e = long-enough e

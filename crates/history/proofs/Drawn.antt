@@ -19,48 +19,48 @@ use Rattle.rules.specs.Verdict.{room, verdict, afterwards}
 use Rattle.rules.proofs.Decide.{range-decides}
 use Rattle.rules.proofs.Sound.{picture-draw, draw-sound}
 
-pub drawn-long : (P : Picture) → length (draw P) ≡ kind.size (P .size)
+pub drawn-long : (P : Picture) → length (draw P) ≡ kind.size (P .places)
 unfolding draw
-drawn-long P = length-words (P .size) (drawn P)
+drawn-long P = length-words (P .places) (drawn P)
 
 module _ (P : Picture) (v : Right P) (rest : List ℕ) where
   abbrev t : List ℕ
   t = draw P ++ rest
 
-  in-range : kind.inRange (P .size) ≡ true
-  in-range = range-decides (P .size) .1 (v .least, v .most)
+  in-range : kind.inRange (P .places) ≡ true
+  in-range = range-decides (P .places) .1 (v .least, v .most)
 
   header : (f : ℕ) → f < kind.headerWords → getD t f 0 ≡ drawn P .header f
   unfolding draw
   header f h =
-      List·getD-append (words (P .size) (drawn P)) rest 0 f (rw length-words (omega arith)) ∙ get-header (P .size) (drawn P) f h
+      List·getD-append (words (P .places) (drawn P)) rest 0 f (rw length-words (omega arith)) ∙ get-header (P .places) (drawn P) f h
 
   mark : getD t kind.markAt 0 ≡ kind.mark
   mark = header kind.markAt (lit< tt)
 
-  size : getD t kind.sizeAt 0 ≡ P .size
-  size = header kind.sizeAt (lit< tt)
+  size : getD t kind.placesAt 0 ≡ P .places
+  places = header kind.placesAt (lit< tt)
 
-  table : take (kind.size (P .size)) t ≡ draw P
-  table = take-at (draw P) rest (kind.size (P .size)) (drawn-long P)
+  table : take (kind.size (P .places)) t ≡ draw P
+  table = take-at (draw P) rest (kind.size (P .places)) (drawn-long P)
 
-  pub long : kind.size (P .size) ≤ length t
+  pub long : kind.size (P .places) ≤ length t
   long = rw (length-append, drawn-long P) (omega arith)
 
   pub drawn-accepted : verdict t ≡ 0
   unfolding verdict
   drawn-accepted =
-      rw (le-ltb (length t) kind.headerWords (omega (arith, long)), mark, size, in-range, le-ltb (length t) (kind.size (P .size)) long, table, draw-sound P v)
+      rw (le-ltb (length t) kind.headerWords (omega (arith, long)), mark, size, in-range, le-ltb (length t) (kind.size (P .places)) long, table, draw-sound P v)
 
   pub drawn-found : picture (take (room t) t) ≡ P
   drawn-found = rw (size, table) (picture-draw P v)
 
   pub drawn-after : (f : Picture → Picture) → afterwards f t ≡ draw (f P) ++ rest
   unfolding afterwards
-  drawn-after f = rw (drawn-accepted, drawn-found, size, drop-at (draw P) rest (kind.size (P .size)) (drawn-long P))
+  drawn-after f = rw (drawn-accepted, drawn-found, size, drop-at (draw P) rest (kind.size (P .places)) (drawn-long P))
 
   -- lent fewer words than the table takes
-  module _ (n : ℕ) (h : n < kind.size (P .size)) where
+  module _ (n : ℕ) (h : n < kind.size (P .places)) where
     part-long : length (take n t) ≡ n
     part-long = length-take-le n t (omega (arith, long))
 
@@ -70,7 +70,7 @@ module _ (P : Picture) (v : Right P) (rest : List ℕ) where
         elim (decLt n kind.headerWords) [
           | yes l ↦ rw (part-long, lt-ltb n kind.headerWords l)
           | no g ↦
-              rw (part-long, le-ltb n kind.headerWords (omega (arith, g)), getD-take n t kind.markAt 0 (omega (arith, g)), getD-take n t kind.sizeAt 0 (omega (arith, g)), mark, size, in-range, lt-ltb n (kind.size (P .size)) h)
+              rw (part-long, le-ltb n kind.headerWords (omega (arith, g)), getD-take n t kind.markAt 0 (omega (arith, g)), getD-take n t kind.placesAt 0 (omega (arith, g)), mark, size, in-range, lt-ltb n (kind.size (P .places)) h)
         ]
 
     pub short-after : (f : Picture → Picture) → afterwards f (take n t) ≡ take n t

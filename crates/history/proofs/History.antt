@@ -23,11 +23,11 @@ record Follows (calls : List Lent) (q : ℕ) (s : Waiting) (P : Picture) (rest :
   pub leaves : tableAfter calls (draw P ++ rest) ≡ draw (pictureAfter P calls) ++ rest
   pub step : Step q (plainAfter q s calls) (pictureAfter P calls)
 
-at-step : {calls : List Lent} {q : ℕ} {s : Waiting} {P : Picture} {rest : List ℕ} → Step q s P → Follows calls (P .size) (plain P) P rest → Follows calls q s P rest
+at-step : {calls : List Lent} {q : ℕ} {s : Waiting} {P : Picture} {rest : List ℕ} → Step q s P → Follows calls (P .places) (plain P) P rest → Follows calls q s P rest
 at-step {calls} {q} {P = P} {rest} j f =
-    subst (λ (s : Waiting). Follows calls q s P rest) (j .plain) (subst (λ (n : ℕ). Follows calls n (plain P) P rest) (j .size) f)
+    subst (λ (s : Waiting). Follows calls q s P rest) (j .plain) (subst (λ (n : ℕ). Follows calls n (plain P) P rest) (j .places) f)
 
-follows : (calls : List Lent) (P : Picture) → Right P → (rest : List ℕ) → Follows calls (P .size) (plain P) P rest
+follows : (calls : List Lent) (P : Picture) → Right P → (rest : List ℕ) → Follows calls (P .places) (plain P) P rest
 follows [] P v rest = record { answers = refl; leaves = refl; step = stay P v }
 follows (l ∷ calls) P v rest =
     let c = comes P v rest l in
@@ -55,8 +55,8 @@ module _ (q : ℕ) (w : List ℕ) (laid : layOutNumber q (length w) ≡ 0) (call
   pub the-history : plain (pictureAfter (empty q) calls) ≡ plainAfter q nobody calls
   the-history = all .step .plain
 
-  pub the-size : pictureAfter (empty q) calls .size ≡ q
-  the-size = all .step .size
+  pub the-places : pictureAfter (empty q) calls .places ≡ q
+  the-places = all .step .places
 
   pub the-right : Right (pictureAfter (empty q) calls)
   the-right = all .step .right
@@ -65,7 +65,7 @@ module _ (q : ℕ) (w : List ℕ) (laid : layOutNumber q (length w) ≡ 0) (call
   pub next-reply : (l : Lent) → reply (l .call) (take (l .words) (tableAfter calls (laidOut q w))) ≡ plainAnswer q (plainAfter q nobody calls) l
   next-reply l =
       ap (λ (t : List ℕ). reply (l .call) (take (l .words) t)) the-table ∙ comes (pictureAfter (empty q) calls) the-right (drop (kind.size q) w) l .answers
-      ∙ ap₂ (λ (n : ℕ) (s : Waiting). plainAnswer n s l) the-size the-history
+      ∙ ap₂ (λ (n : ℕ) (s : Waiting). plainAnswer n s l) the-places the-history
 
 -- two histories with the same picture leave equal words
 pub same-picture : (q : ℕ) (w : List ℕ) → layOutNumber q (length w) ≡ 0 → (calls others : List Lent) → pictureAfter (empty q) calls ≡ pictureAfter (empty q) others

@@ -23,7 +23,7 @@ single-step (commands.sliding r) P = refl
 single-step commands.serving P = refl
 
 -- the picture after single calls, by whether n words are too few for a table of q places
-single-pictures : (n q : ℕ) (b : Bool) → ltb n (kind.size q) ≡ b → (cs : List Command) (P : Picture) → Right P → P .size ≡ q → pictureAfter P (singles n cs) ≡ cond b P (nextAll P cs)
+single-pictures : (n q : ℕ) (b : Bool) → ltb n (kind.size q) ≡ b → (cs : List Command) (P : Picture) → Right P → P .places ≡ q → pictureAfter P (singles n cs) ≡ cond b P (nextAll P cs)
 single-pictures n q true e [] P v s = refl
 single-pictures n q false e [] P v s = refl
 single-pictures n q true e (c ∷ cs) P v s =
@@ -32,7 +32,7 @@ single-pictures n q true e (c ∷ cs) P v s =
 single-pictures n q false e (c ∷ cs) P v s =
     let goes : pictureNext P (lent n (single c)) ≡ next P c = ap (λ (m : ℕ). cond (ltb n (kind.size m)) P (pictureStep (single c) P)) s ∙ rw e (single-step c P) in
     let k = next-step P v c in
-    ap (λ (J : Picture). pictureAfter J (singles n cs)) goes ∙ single-pictures n q false e cs (next P c) (k .right) (k .size ∙ s)
+    ap (λ (J : Picture). pictureAfter J (singles n cs)) goes ∙ single-pictures n q false e cs (next P c) (k .right) (k .places ∙ s)
 
 after-append : (xs ys : List Lent) (P : Picture) → pictureAfter P (xs ++ ys) ≡ pictureAfter (pictureAfter P xs) ys
 after-append [] ys P = refl
@@ -44,7 +44,7 @@ module _ (q : ℕ) (w : List ℕ) (laid : layOutNumber q (length w) ≡ 0) (n : 
       let P : Picture = pictureAfter (empty q) before in
       let cs : List Command = carried budget bytes in
       let run : pictureNext P (lent n (running bytes budget)) ≡ pictureAfter P (singles n cs) =
-      sym (single-pictures n (P .size) (ltb n (kind.size (P .size))) refl cs P (the-right q w laid before) refl) in
+      sym (single-pictures n (P .places) (ltb n (kind.size (P .places))) refl cs P (the-right q w laid before) refl) in
       after-append before (lent n (running bytes budget) ∷ after) (empty q)
       ∙ ap (λ (J : Picture). pictureAfter J after) run
       ∙ sym (after-append (singles n cs) after P)

@@ -34,7 +34,7 @@ use Rattle.steps.specs.Items.{evicted as heaviestLeft}
 use Rattle.steps.proofs.Choices.{choice-joined, arrived-by, slid-joined, served-front}
 use Rattle.history.specs.Calls.{Lent, tableAfter, plainAfter, pictureAfter}
 use Rattle.history.proofs.Drawn.{drawn-long}
-use Rattle.history.proofs.History.{the-table, the-history, the-size, the-right}
+use Rattle.history.proofs.History.{the-table, the-history, the-places, the-right}
 
 -- a word of each client's row that is a value of its id
 by-id : (word value : ℕ → ℕ) (cs : List Client) → All (λ c. word (c .row) ≡ value (c .id)) cs → map word (map clientRow cs) ≡ map value (map clientId cs)
@@ -74,12 +74,12 @@ module _ (q : ℕ) (w : List ℕ) (laid : layOutNumber q (length w) ≡ 0) (call
   waiting = plainAfter q nobody calls
 
   after : Step q waiting (pictureAfter (empty q) calls)
-  after = record { right = the-right q w laid calls; size = the-size q w laid calls; plain = the-history q w laid calls }
+  after = record { right = the-right q w laid calls; places = the-places q w laid calls; plain = the-history q w laid calls }
 
   drawn : table ≡ draw (pictureAfter (empty q) calls)
   drawn =
       let P : Picture = pictureAfter (empty q) calls in
-      ap (take (kind.size q)) (the-table q w laid calls) ∙ take-at (draw P) (drop (kind.size q) w) (kind.size q) (drawn-long P ∙ ap kind.size (the-size q w laid calls))
+      ap (take (kind.size q)) (the-table q w laid calls) ∙ take-at (draw P) (drop (kind.size q) w) (kind.size q) (drawn-long P ∙ ap kind.size (the-places q w laid calls))
 
   pub table-ready : Ready q table
   table-ready = drawn-ready after drawn
@@ -97,7 +97,7 @@ module _ (q : ℕ) (w : List ℕ) (laid : layOutNumber q (length w) ≡ 0) (call
   -- the client links visit the same rows both ways, each once
   pub linked-both-ways : Linked q (linked.order (regions q table)) (clientRows (picture table))
   linked-both-ways =
-      subst (λ (n : ℕ). Linked n (linked.order (regions q table)) (clientRows (picture table))) (table-ready .size) (ready-holds table-ready .order)
+      subst (λ (n : ℕ). Linked n (linked.order (regions q table)) (clientRows (picture table))) (table-ready .places) (ready-holds table-ready .order)
 
   -- they hold the waiting clients, lightest first, each once
   pub each-once : (map (λ r. clientWord table q r kind.id) (clientRows (picture table)) ≡ waiting .order) × Distinct (waiting .order)
@@ -149,7 +149,7 @@ module _ (P : Picture) (i : Item) (id ticket : ℕ) where
       (a ∙ rw (leave-frees P i, frees), b ∙ rw frees)
 
 -- so an arrival that evicts stands in the row of the request that left
-pub evicted-row-next : (P : Picture) (id ticket : ℕ) {r : Request} → choice (P .size) (plain P) id ≡ evicted r
+pub evicted-row-next : (P : Picture) (id ticket : ℕ) {r : Request} → choice (P .places) (plain P) id ≡ evicted r
     → itemRows (arrived P id ticket) ≡ itemRows (heaviestLeft P) ++ newestItem (lastOr kind.none (clientRows P)) (item 0 0 0) (P .window) .row ∷ []
 evicted-row-next P id ticket e = ap itemRows (arrived-by P id ticket e) ∙ freed-item-next P _ id ticket .0
 
@@ -161,16 +161,16 @@ module _ (P : Picture) (v : Right P) (h : 1 ≤ length (P .window)) (id ticket :
   goes : served P ≡ leave P front
   goes = served-front P (λ e. omega (arith, e, h))
 
-  has-room : full (leave P front .size) (plain (leave P front)) ≡ false
+  has-room : full (leave P front .places) (plain (leave P front)) ≡ false
   has-room =
       let J : Picture = leave P front in
       let one : 1 ≤ length (J .freeItems) = rw (leave-frees P front) (omega arith) in
-      lt-leb (J .size) (length (plain J .window)) (omega (arith, one, places J (front-step P v h .right), length-map (J .window) (requestOf (J .clients))))
+      lt-leb (J .places) (length (plain J .window)) (omega (arith, one, places J (front-step P v h .right), length-map (J .window) (requestOf (J .clients))))
 
   pub served-row-next : (itemRows (arrived (served P) id ticket) ≡ itemRows (served P) ++ front .row ∷ []) × (itemRows (slid (served P) id ticket) ≡ itemRows (served P) ++ front .row ∷ [])
   served-row-next =
       let J : Picture = leave P front in
       rw goes (
-        ap itemRows (arrived-by J id ticket (choice-joined (J .size) (plain J) id has-room)) ∙ freed-item-next P front id ticket .0,
+        ap itemRows (arrived-by J id ticket (choice-joined (J .places) (plain J) id has-room)) ∙ freed-item-next P front id ticket .0,
         ap itemRows (slid-joined J id ticket has-room) ∙ freed-item-next P front id ticket .0,
       )

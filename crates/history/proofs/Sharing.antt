@@ -21,23 +21,23 @@ use Rattle.limiter.proofs.Sharing.{reply-not-turned, reply-not-evicted}
 use Rattle.history.specs.Calls.{Lent, lent, arriving, Reply, arrived, slid, served, ran, listed, counted, told, reply, tableAfter, short, plainAfter, pictureAfter}
 use Rattle.history.proofs.Drawn.{drawn-accepted, drawn-found}
 use Rattle.history.proofs.Call.{given}
-use Rattle.history.proofs.History.{the-history, the-size, the-right, next-reply}
+use Rattle.history.proofs.History.{the-history, the-places, the-right, next-reply}
 
 -- on a right picture, whose drawing is a table that no call refuses
-module _ (P : Picture) (v : Right P) (i : ℕ) (light : count i (plain P .window) * length (plain P .order) < P .size) where
+module _ (P : Picture) (v : Right P) (i : ℕ) (light : count i (plain P .window) * length (plain P .order) < P .places) where
   abbrev t : List ℕ
   t = draw P ++ []
 
-  promised : (j : ℕ) → arrivedReply (choice (P .size) (plain P) j) ≡ arriveAnswer j t
-  promised j = sym (given t (drawn-accepted P v []) (drawn-found P v []) tells.Refused (λ X. arrivedReply (choice (X .size) (plain X) j)))
+  promised : (j : ℕ) → arrivedReply (choice (P .places) (plain P) j) ≡ arriveAnswer j t
+  promised j = sym (given t (drawn-accepted P v []) (drawn-found P v []) tells.Refused (λ X. arrivedReply (choice (X .places) (plain X) j)))
 
   light-there : count i (waitingIn t .window) * length (waitingIn t .order) < placesIn t
-  light-there = subst (λ (X : Picture). count i (plain X .window) * length (plain X .order) < X .size) (sym (drawn-found P v [])) light
+  light-there = subst (λ (X : Picture). count i (plain X .window) * length (plain X .order) < X .places) (sym (drawn-found P v [])) light
 
-  shown-turned : arrivedReply (choice (P .size) (plain P) i) ≡ tells.Turned → ⊥
+  shown-turned : arrivedReply (choice (P .places) (plain P) i) ≡ tells.Turned → ⊥
   shown-turned = reply-not-turned t i (sym (drawn-accepted P v [])) light-there (promised i)
 
-  shown-evicted : (j : ℕ) (r : Request) → arrivedReply (choice (P .size) (plain P) j) ≡ tells.Evicted r → r .id ≡ i → ⊥
+  shown-evicted : (j : ℕ) (r : Request) → arrivedReply (choice (P .places) (plain P) j) ≡ tells.Evicted r → r .id ≡ i → ⊥
   shown-evicted j r = reply-not-evicted t i (sym (drawn-accepted P v [])) light-there j r (promised j)
 
 -- a reply that is no refusal is the choice's, not that of a call that is lent too few words
@@ -61,13 +61,13 @@ module _ (q : ℕ) (w : List ℕ) (laid : layOutNumber q (length w) ≡ 0) (call
   abbrev P : Picture
   P = pictureAfter (empty q) calls
 
-  light-shown : count i (plain P .window) * length (plain P .order) < P .size
+  light-shown : count i (plain P .window) * length (plain P .order) < P .places
   light-shown =
-      subst (λ (s : Waiting). count i (s .window) * length (s .order) < P .size) (sym (the-history q w laid calls))
-      (subst (λ (n : ℕ). count i (plainAfter q nobody calls .window) * length (plainAfter q nobody calls .order) < n) (sym (the-size q w laid calls)) light)
+      subst (λ (s : Waiting). count i (s .window) * length (s .order) < P .places) (sym (the-history q w laid calls))
+      (subst (λ (n : ℕ). count i (plainAfter q nobody calls .window) * length (plainAfter q nobody calls .order) < n) (sym (the-places q w laid calls)) light)
 
-  is-choice : (j : ℕ) → arrivedReply (choice (P .size) (plain P) j) ≡ arrivedReply (choice q (plainAfter q nobody calls) j)
-  is-choice j = ap₂ (λ (n : ℕ) (s : Waiting). arrivedReply (choice n s j)) (the-size q w laid calls) (the-history q w laid calls)
+  is-choice : (j : ℕ) → arrivedReply (choice (P .places) (plain P) j) ≡ arrivedReply (choice q (plainAfter q nobody calls) j)
+  is-choice j = ap₂ (λ (n : ℕ) (s : Waiting). arrivedReply (choice n s j)) (the-places q w laid calls) (the-history q w laid calls)
 
   -- it is not turned away
   pub never-turned-away : (n ticket : ℕ) → reply (arriving i ticket) (take n (tableAfter calls (laidOut q w))) ≡ arrived tells.Turned → ⊥

@@ -170,7 +170,7 @@ pictureStep (oldest id) P = P
 pictureStep (newest id) P = P
 
 abbrev pub pictureNext : Picture → Lent → Picture
-pictureNext P l = cond (short (P .size) l) P (pictureStep (l .call) P)
+pictureNext P l = cond (short (P .places) l) P (pictureStep (l .call) P)
 
 abbrev pub pictureAfter : Picture → List Lent → Picture
 pictureAfter P [] = P

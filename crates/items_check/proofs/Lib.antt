@@ -1,5 +1,4 @@
 -- Laws of the items' part of the check.
 pub mod Lists
 pub mod WindowTurns
-pub mod FreeTurns
 pub mod Means

@@ -1,8 +1,8 @@
--- The turns of the walk of the window: a row that is left joins, and where it joins, the rest after it is what is to be shown; where none is left, the walk is finished.
-use mathlib.Core.List.{List, [], _∷_}
+-- The turns of the walk of the window, with the columns of what was noted.
+use mathlib.Core.List.{List, _∷_}
 use mathlib.Core.Bool.{Bool, true, false, cond}
 use mathlib.Core.Path.{_≡_, refl, sym, ap, _∙_, subst, fun-ext}
-use mathlib.Core.Logic.{_↔_, Iff·rfl, Iff·symm, Iff·trans}
+use mathlib.Core.Logic.{_↔_, Iff·rfl}
 use Prim.Native.Nat.{ℕ, _+_, _-_, _≤_, _<_}
 use native.Mathlib.Omega.{arith}
 use lib.Dec.{eqb}
@@ -11,7 +11,10 @@ use lib.Seq.{getD-set-same, getD-set-other}
 use borrow.Author.Tests.{eq-eqb, lt-ltb, le-ltb, eqb-true, eqb-false}
 use Rattle.table.specs.Kind as kind
 use Rattle.table.specs.Regions.{Regions}
-use Rattle.items_check.specs.Check.{column, ownOf, Waits, nextOwn, Joins, OwnRest, Finished, Follows, Rest, Unmet}
+use Rattle.free_check.specs.Listed.{Listed}
+use Rattle.free_check.proofs.Listed as listed
+use Rattle.free_check.proofs.Listed.{left-over}
+use Rattle.items_check.specs.Check.{column, ownOf, IsClient, nextOwn, Joins, OwnRest, Finished, Follows, Unmet}
 
 -- a column with v noted for c
 
@@ -71,52 +74,47 @@ module _ (q : ℕ) (R : Regions) where
         let l′ : OwnRest q R owner (met owner) (seen owner) (x ∷ ownOf R owner xs) = rw (eq-eqb owner owner refl) at l in
         record { earlier = e; own = l′ .run .1; room = omega (arith, l′ .count); next = l′ .run .0 }
 
-    module _ (k : ℕ) (h : 0 < k) where
-      some : Rest q R k x prev met seen → ((xs : List ℕ) × Follows q R k x prev met seen (x ∷ xs))
-      some ([], f) = absurd (omega (arith, f .many))
-      some (y ∷ ys, f) = (ys, subst (λ (z : ℕ). Follows q R k x prev met seen (z ∷ ys)) (sym (f .run .0)) f)
+    -- one row more: it joins, and the walk goes on with it noted
+    step : (rs : List ℕ) → Follows q R x prev met seen (x ∷ rs) ↔ (First owner × Follows q R (R .item x kind.later) x (noted owner x met) (noted owner (seen owner + 1) seen) rs)
+    step rs = (
+      λ f.
+          let a : First owner = record { row = f .below .0; client = f .owners .0 .0; joins = own-first rs (f .run .1) (f .own owner (f .owners .0)) } in
+          (a, record { below = f .below .1; run = f .run .2; owners = f .owners .1; own = λ d w. own-on a rs d .0 (f .own d w) }),
+      λ p.
+          let a = p .0 in
+          let f = p .1 in
+          let o : IsClient q R owner = (a .client, λ z. omega (arith, z, a .joins .room)) in
+          record { below = (a .row, f .below); run = (refl, a .joins .earlier, f .run); owners = (o, f .owners); own = λ d w. own-on a rs d .1 (f .own d w) },
+    )
 
-      pub first : Rest q R k x prev met seen → (c : ℕ) → c ≡ owner → First c
-      first r c is =
-          let f = some r .1 in
-          let a : First owner = record { row = f .below .0; client = f .owners .0 .0; joins = own-first (some r .0) (f .run .1) (f .own owner (f .owners .0)) } in
-          rw is a
+    module _ (k : ℕ) {W : Type 0} (so : Listed k (Follows q R x prev met seen) ↔ W) where
+      pub turn : 0 < k → (c : ℕ) → c ≡ owner → (First c × Listed (k - 1) (Follows q R (R .item x kind.later) x (noted c x met) (noted c (seen c + 1) seen))) ↔ W
+      turn h c is = rw is (listed.turn k (Follows q R x prev met seen) so x (First owner) (Follows q R (R .item x kind.later) x (noted owner x met) (noted owner (seen owner + 1) seen)) (λ r rs f. f .run .0) step h)
 
-      turn : First owner → Rest q R k x prev met seen ↔ Rest q R (k - 1) (R .item x kind.later) x (noted owner x met) (noted owner (seen owner + 1) seen)
-      turn a = (
-        λ r.
-            let f = some r .1 in
-            (some r .0, record { many = omega (arith, f .many); below = f .below .1; run = f .run .2; owners = f .owners .1; own = λ d w. own-on a (some r .0) d .0 (f .own d w) }),
-        λ r.
-            let f = r .1 in
-            let o : Waits q R owner = (a .client, λ z. omega (arith, z, a .joins .room)) in
-            (x ∷ r .0, record { many = omega (arith, f .many); below = (a .row, f .below); run = (refl, a .joins .earlier, f .run); owners = (o, f .owners); own = λ d w. own-on a (r .0) d .1 (f .own d w) }),
-      )
-
-    pub done : (k : ℕ) → k ≤ 0 → Rest q R k x prev met seen ↔ Finished q R x prev met seen
-    done k h = (λ r. ends (r .0) (r .1), λ e. ([], record { many = omega arith; below = tt; run = (e .none, sym (e .back)); owners = tt; own = e .own }))
-      where
-        ends : (rows : List ℕ) → Follows q R k x prev met seen rows → Finished q R x prev met seen
-        ends [] f = record { none = f .run .0; back = sym (f .run .1); own = f .own }
-        ends (y ∷ ys) f = absurd (omega (arith, f .many))
+      pub stop : k ≤ 0 → Finished q R x prev met seen ↔ W
+      stop h =
+          let s = listed.stop k (Follows q R x prev met seen) so h in (
+            λ e. s .0 (record { below = tt; run = (e .none, sym (e .back)); owners = tt; own = e .own }),
+            λ w. let f = s .1 w in record { none = f .run .0; back = sym (f .run .1); own = f .own },
+          )
 
     -- other columns that say the same of every client
-    own-so : (met′ seen′ : ℕ → ℕ) (k : ℕ) → ((c : ℕ) → Waits q R c → (xs : List ℕ) → OwnRest q R c (met c) (seen c) xs → OwnRest q R c (met′ c) (seen′ c) xs) → Rest q R k x prev met seen → Rest q R k x prev met′ seen′
-    own-so met′ seen′ k h r =
-        let f = r .1 in
-        (r .0, record { many = f .many; below = f .below; run = f .run; owners = f .owners; own = λ c w. h c w (ownOf R c (r .0)) (f .own c w) })
+    own-so : (met′ seen′ : ℕ → ℕ) (k : ℕ) → ((c : ℕ) → IsClient q R c → (xs : List ℕ) → OwnRest q R c (met c) (seen c) xs → OwnRest q R c (met′ c) (seen′ c) xs) → Listed k (Follows q R x prev met seen) → Listed k (Follows q R x prev met′ seen′)
+    own-so met′ seen′ k h l =
+        let f = l .2 in
+        (l .0, l .1, record { below = f .below; run = f .run; owners = f .owners; own = λ c w. h c w (ownOf R c (l .0)) (f .own c w) })
 
-  -- the start and a turn as the code has them; W is all that is to be shown
+  -- the start and a turn as the code has them
 
   module _ (x prev : ℕ) (met seen : List ℕ) (k : ℕ) where
-    pub start : Unmet q met seen → Rest q R k x prev (column met) (column seen) ↔ Rest q R k x prev (λ c. kind.none) (λ c. 0)
+    pub start : Unmet q met seen → Listed k (Follows q R x prev (column met) (column seen)) ↔ Listed k (Follows q R x prev (λ c. kind.none) (λ c. 0))
     start u = (
       own-so x prev (column met) (column seen) (λ c. kind.none) (λ c. 0) k (λ c w xs o. rw (u .nobody c (w .0), u .none-seen c (w .0)) at o),
       own-so x prev (λ c. kind.none) (λ c. 0) (column met) (column seen) k (λ c w xs o. rw (u .nobody c (w .0), u .none-seen c (w .0)) o),
     )
 
-    pub turn-noted : {W : Type 0} → Rest q R k x prev (column met) (column seen) ↔ W → 0 < k
+    pub turn-noted : {W : Type 0} → Listed k (Follows q R x prev (column met) (column seen)) ↔ W → 0 < k
         → (c : ℕ) → c ≡ R .item x kind.owner → First x prev (column met) (column seen) c → c < length met → c < length seen → (to : ℕ) → to ≡ R .item x kind.later
-        → Rest q R (k - 1) to x (column (set met c x)) (column (set seen c (column seen c + 1))) ↔ W
-    turn-noted w h c ec a l m to et =
-        rw (noted-is met c x l, noted-is seen c (getD seen c 0 + 1) m, ec, et) (Iff·trans (Iff·symm (turn x prev (column met) (column seen) k h (rw ec at a))) w)
+        → Listed (k - 1) (Follows q R to x (column (set met c x)) (column (set seen c (column seen c + 1)))) ↔ W
+    turn-noted so h c is a l m to et =
+        rw (noted-is met c x l, noted-is seen c (getD seen c 0 + 1) m, et) (left-over (turn x prev (column met) (column seen) k so h c is) a)

@@ -7,9 +7,12 @@ use lib.Dec.{ltb}
 use lib.ListN.{length, getD}
 use Rattle.table.specs.Kind as kind
 use Rattle.table.specs.Regions.{Regions}
+use Rattle.table.specs.Owners.{windowWords}
 use Rattle.rules.specs.Rows.{All, Below}
-use Rattle.rules.specs.Linked.{Run, Chain, window, own}
+use Rattle.rules.specs.Linked.{Run}
 use Rattle.rules.specs.Picture.{Item, item, ownRows}
+use Rattle.free_check.specs.Listed.{Listed}
+use Rattle.free_check.specs.Free.{Free}
 
 -- the column that a slice holds
 abbrev pub column : List ℕ → ℕ → ℕ
@@ -23,11 +26,11 @@ abbrev pub ownOf : Regions → ℕ → List ℕ → List ℕ
 ownOf R c rows = ownRows c (map (shownItem R) rows)
 
 -- row c is a client's; so is the one that item row r names
-abbrev pub Waits : ℕ → Regions → ℕ → Type 0
-Waits q R c = (c < q) × (R .client c kind.count ≡ 0 → ⊥)
+abbrev pub IsClient : ℕ → Regions → ℕ → Type 0
+IsClient q R c = (c < q) × (R .client c kind.count ≡ 0 → ⊥)
 
 abbrev pub Owned : ℕ → Regions → ℕ → Type 0
-Owned q R r = Waits q R (R .item r kind.owner)
+Owned q R r = IsClient q R (R .item r kind.owner)
 
 -- the item that client c has after p, or its oldest where p is no row
 unfoldable pub nextOwn : ℕ → Regions → ℕ → ℕ → ℕ
@@ -42,12 +45,12 @@ pub record Joins (q : ℕ) (R : Regions) (x prev c p n : ℕ) : Type 0 where
 
 -- after p, the n-th, the own list of client c has the rows xs, up to its newest and its count
 pub record OwnRest (q : ℕ) (R : Regions) (c p n : ℕ) (xs : List ℕ) : Type 0 where
-  pub run : Run (own c R .back) (own c R .on) p (nextOwn q R c p) xs kind.none (R .client c kind.newest)
+  pub run : Run (windowWords R .ownEarlier) (windowWords R .ownLater) p (nextOwn q R c p) xs kind.none (R .client c kind.newest)
   pub count : n + length xs ≡ R .client c kind.count
 
 -- with p, the n-th, the own list of client c ends, or row c is no client's
 abbrev pub OwnEnds : ℕ → Regions → ℕ → ℕ → ℕ → Type 0
-OwnEnds q R c p n = Waits q R c → OwnRest q R c p n []
+OwnEnds q R c p n = IsClient q R c → OwnRest q R c p n []
 
 -- with no row left at x, the window ends with prev, and each own list with what was met of it
 pub record Finished (q : ℕ) (R : Regions) (x prev : ℕ) (met seen : ℕ → ℕ) : Type 0 where
@@ -55,20 +58,16 @@ pub record Finished (q : ℕ) (R : Regions) (x prev : ℕ) (met seen : ℕ → �
   pub back : prev ≡ R .header kind.backAt
   pub own : (c : ℕ) → OwnEnds q R c (met c) (seen c)
 
--- after prev the window has k rows from pointer x on, up to the back; and the own list of each client c, after met c, has those of its rows
-pub record Follows (q : ℕ) (R : Regions) (k x prev : ℕ) (met seen : ℕ → ℕ) (rows : List ℕ) : Type 0 where
-  pub many : length rows ≡ k
+-- after prev the window has these rows from pointer x on, up to the back; and the own list of each client c, after met c, has those of its rows
+pub record Follows (q : ℕ) (R : Regions) (x prev : ℕ) (met seen : ℕ → ℕ) (rows : List ℕ) : Type 0 where
   pub below : Below q rows
-  pub run : Run (window R .back) (window R .on) prev x rows kind.none (R .header kind.backAt)
+  pub run : Run (windowWords R .earlier) (windowWords R .later) prev x rows kind.none (R .header kind.backAt)
   pub owners : All (Owned q R) rows
-  pub own : (c : ℕ) → Waits q R c → OwnRest q R c (met c) (seen c) (ownOf R c rows)
+  pub own : (c : ℕ) → IsClient q R c → OwnRest q R c (met c) (seen c) (ownOf R c rows)
 
-abbrev pub Rest : ℕ → Regions → ℕ → ℕ → ℕ → (ℕ → ℕ) → (ℕ → ℕ) → Type 0
-Rest q R k x prev met seen = (rows : List ℕ) × Follows q R k x prev met seen rows
-
--- all of it, before anything is met
+-- all of it, as many rows as the header says, before anything is met
 abbrev pub Window : ℕ → Regions → Type 0
-Window q R = Rest q R (R .header kind.requestsAt) (R .header kind.frontAt) kind.none (λ c. kind.none) (λ c. 0)
+Window q R = Listed (R .header kind.requestsAt) (Follows q R (R .header kind.frontAt) kind.none (λ c. kind.none) (λ c. 0))
 
 -- room to note every client in, where nothing is noted yet
 pub record Unmet (q : ℕ) (met seen : List ℕ) : Type 0 where
@@ -77,22 +76,8 @@ pub record Unmet (q : ℕ) (met seen : List ℕ) : Type 0 where
   pub nobody : (c : ℕ) → c < q → column met c ≡ kind.none
   pub none-seen : (c : ℕ) → c < q → column seen c ≡ 0
 
--- a free item row but for its link
-abbrev pub Idle : Regions → ℕ → Type 0
-Idle R r = (f : ℕ) → f < kind.itemWords → (f ≡ kind.later → ⊥) → R .item r f ≡ 0
-
--- m free rows from pointer x on
-pub record Frees (q : ℕ) (R : Regions) (m x : ℕ) (rows : List ℕ) : Type 0 where
-  pub many : length rows ≡ m
-  pub below : Below q rows
-  pub chain : Chain (λ r. R .item r kind.later) x rows
-  pub idle : All (Idle R) rows
-
-abbrev pub Free : ℕ → Regions → ℕ → ℕ → Type 0
-Free q R m x = (rows : List ℕ) × Frees q R m x rows
-
 -- no more items wait than there are rows, the window is right, and the other rows are free
 pub record Whole (q : ℕ) (R : Regions) : Type 0 where
   pub few : R .header kind.requestsAt ≤ q
   pub window : Window q R
-  pub free : Free q R (q - R .header kind.requestsAt) (R .header kind.freeItemAt)
+  pub free : Free q kind.itemWords kind.later (R .item) (R .header kind.freeItemAt) (q - R .header kind.requestsAt)

@@ -1,32 +1,24 @@
--- The promise of the items' part of the soundness check: it tells exactly whether the words hold a window of items, where the clients are known.
+-- The promise of the items' part of the soundness check: it tells exactly whether the words hold a window of items, where the clients are right.
 use mathlib.Core.List.{List}
-use mathlib.Core.Bool.{Bool, true}
+use mathlib.Core.Bool.{Bool}
 use mathlib.Core.Path.{_≡_}
-use Prim.Native.Nat.{ℕ, _<_}
+use Prim.Native.Nat.{ℕ}
 use lib.ListN.{length}
-use Rattle.table.specs.Kind as kind
 use Rattle.table.specs.Regions.{Regions, regions}
-use Rattle.rules.specs.Rows.{In, All, Distinct, Below}
+use Rattle.table.specs.Owners.{orderWords, windowWords}
+use Rattle.rules.specs.Rows.{In, All}
 use Rattle.rules.specs.Picture.{Item, ownRows}
-use Rattle.rules.specs.Parts.{Queued}
-
--- the clients are known: cs are the rows with a count, and the others have no oldest and no newest item
-pub record Known (q : ℕ) (R : Regions) (cs : List ℕ) : Type 0 where
-  pub distinct : Distinct cs
-  pub below : Below q cs
-  pub counted : (c : ℕ) → In c cs → R .client c kind.count ≡ 0 → ⊥
-  pub others : (c : ℕ) → c < q → (R .client c kind.count ≡ 0 → ⊥) → In c cs
-  pub blank : (c : ℕ) → c < q → R .client c kind.count ≡ 0 → (R .client c kind.oldest ≡ 0) × (R .client c kind.newest ≡ 0)
+use Rattle.rules.specs.Tells.{Tells}
+use Rattle.rules.specs.Parts.{Queued, Present}
 
 -- the words hold items of these clients, each client as many as its count
 pub record Items (q : ℕ) (R : Regions) (cs : List ℕ) : Type 0 where
   pub w : List Item
   pub free : List ℕ
-  pub queued : Queued q R w free
+  pub queued : Queued q (windowWords R) w free
   pub owners : All (λ i. In (i .client) cs) w
-  pub counts : (c : ℕ) → In c cs → length (ownRows c w) ≡ R .client c kind.count
+  pub counts : (c : ℕ) → In c cs → length (ownRows c w) ≡ orderWords R .count c
 
--- an answer that tells exactly that
-pub record Checked (q : ℕ) (t : List ℕ) (ok : Bool) : Type 0 where
-  pub right : (cs : List ℕ) → Known q (regions q t) cs → ok ≡ true → Items q (regions q t) cs
-  pub passes : (cs : List ℕ) → Known q (regions q t) cs → Items q (regions q t) cs → ok ≡ true
+-- an answer that tells exactly that, where these are the clients
+abbrev pub Checked : ℕ → List ℕ → Bool → Type 0
+Checked q t ok = (cs : List ℕ) → Present q (regions q t) cs → Tells ok (Items q (regions q t) cs)

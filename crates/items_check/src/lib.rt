@@ -3,11 +3,11 @@
 ghost use mathlib.Core.Path.{_≡_};
 ghost use Prim.Native.Nat.{_<_, _≤_};
 ghost use lib.ListN.{length};
-ghost use Rattle.table.specs.Kind as kind;
 ghost use Rattle.table.specs.Regions.{Sized, regions};
 ghost use Rattle.items_check.specs.Items.{Checked};
 ghost use Rattle.rules.specs.Tells.{Tells};
-ghost use Rattle.items_check.specs.Check.{column, nextOwn, Joins, OwnEnds, Finished, Window, Unmet, Idle, Free};
+ghost use Rattle.items_check.specs.Check.{column, nextOwn, Joins, OwnEnds, Finished, Window, Unmet};
+use free_check::Rows;
 use table::LinkedTable;
 
 // Up to this size a table is checked in little room: clearing the most takes longer than all of its check.
@@ -37,7 +37,7 @@ fn joins(t: &[u32], q: usize, x: u32, prev: u32, c: u32, p: u32, n: u32) -> bool
     if table::item(t, q, x, LinkedTable::OWN_EARLIER) != p {
         return false;
     }
-    if n >= table::client(t, q, c, LinkedTable::WAITING) {
+    if n >= table::client(t, q, c, LinkedTable::COUNT) {
         return false;
     }
     next_own(t, q, c, p) == x
@@ -49,7 +49,7 @@ fn own_ends(t: &[u32], q: usize, c: u32, p: u32, n: u32) -> bool
     requires { ⌜ c < q ⌝ }
     ensures { λ ok. ⌜ Tells ok (OwnEnds q (regions q (now (t .entry))) c p n) ⌝ }
 {
-    let count = table::client(t, q, c, LinkedTable::WAITING);
+    let count = table::client(t, q, c, LinkedTable::COUNT);
     if count == 0 {
         return true;
     }
@@ -132,56 +132,20 @@ fn window(t: &[u32], q: usize) -> bool
     follow(t, q, &mut met, &mut seen)
 }
 
-// A free item row but for its link.
-fn idle(t: &[u32], q: usize, r: u32) -> bool
-    requires { ⌜ Sized q (now t) ⌝ }
-    requires { ⌜ r < q ⌝ }
-    ensures { λ ok. ⌜ Tells ok (Idle (regions q (now (t .entry))) r) ⌝ }
-{
-    let mut f: usize = 0;
-    while f < LinkedTable::ITEM {
-        if f != LinkedTable::LATER {
-            if table::item(t, q, r, f) != 0 {
-                return false;
-            }
-        }
-        f += 1;
-    }
-    true
-}
-
-// The chain of free items has m rows.
-fn free(t: &[u32], q: usize, m: usize) -> bool
-    requires { ⌜ Sized q (now t) ⌝ }
-    ensures { λ ok. ⌜ Tells ok (Free q (regions q (now (t .entry))) m (regions q (now (t .entry)) .header kind.freeItemAt)) ⌝ }
-{
-    let rows = q as u32;
-    let mut left = m;
-    let mut r = table::header(t, q, LinkedTable::FREE_ITEM_AT);
-    while 0 < left {
-        if r >= rows {
-            return false;
-        }
-        if !idle(t, q, r) {
-            return false;
-        }
-        r = table::item(t, q, r, LinkedTable::LATER);
-        left -= 1;
-    }
-    r == LinkedTable::NONE
-}
-
-// Whether the items are right, where the clients are known.
+// Whether the items are right, where the clients are.
 pub fn check_items(t: &[u32], q: usize) -> bool
     requires { ⌜ Sized q (now t) ⌝ }
     ensures { λ ok. ⌜ Checked q (now (t .entry)) ok ⌝ }
 {
     let n = table::header(t, q, LinkedTable::REQUESTS_AT) as usize;
-    if n > q {
+    if q < n || !window(t, q) {
         return false;
     }
-    if !window(t, q) {
-        return false;
-    }
-    free(t, q, q - n)
+    let rows = Rows {
+        from: LinkedTable::HEADER_WORDS,
+        width: LinkedTable::ITEM_WORDS,
+        link: LinkedTable::LATER,
+    };
+    let first = table::header(t, q, LinkedTable::FREE_ITEM_AT);
+    free_check::free_rows(t, rows, q, first, q - n)
 }

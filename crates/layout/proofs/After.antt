@@ -11,6 +11,7 @@ use borrow.Author.Tests.{le-ltb, ltb-false}
 use Rattle.table.specs.Kind as kind
 use Rattle.table.specs.Regions.{words}
 use Rattle.table.proofs.Draw.{length-words, get-header}
+use Rattle.rules.specs.Numbers as number
 use Rattle.rules.specs.History.{nobody}
 use Rattle.rules.specs.Picture.{plain}
 use Rattle.rules.specs.Steps.{empty}
@@ -23,7 +24,7 @@ use Rattle.rules.proofs.Empty.{empty-sound, empty-picture, empty-plain}
 pub accepted : (q n : ℕ) → layOutNumber q n ≡ 0 → (kind.inRange q ≡ true) × (kind.size q ≤ n)
 accepted q n e = go (kind.inRange q) refl (ltb n (kind.size q)) refl e
   where
-    go : (a : Bool) → kind.inRange q ≡ a → (b : Bool) → ltb n (kind.size q) ≡ b → _≡_ {A = ℕ} (cond a (cond b 2 0) 1) 0 → (kind.inRange q ≡ true) × (kind.size q ≤ n)
+    go : (a : Bool) → kind.inRange q ≡ a → (b : Bool) → ltb n (kind.size q) ≡ b → _≡_ {A = ℕ} (cond a (cond b number.tooShort 0) number.outOfRange) 0 → (kind.inRange q ≡ true) × (kind.size q ≤ n)
     go true f false g h = (f, ltb-false n (kind.size q) g)
     go true f true g h = absurd (omega arith)
     go false f b g h = absurd (omega arith)
@@ -52,7 +53,7 @@ module _ (q : ℕ) (t : List ℕ) (e : layOutNumber q (length t) ≡ 0) where
       let a = accepted q (length t) e in
       let n : kind.size q ≤ length (laidOut q t) = rw (laid-is, length-append, long) (omega arith) in
       let mark : getD (laidOut q t) kind.markAt 0 ≡ kind.mark = header kind.markAt (lit< tt) in
-      let size : getD (laidOut q t) kind.sizeAt 0 ≡ q = header kind.sizeAt (lit< tt) in
+      let size : getD (laidOut q t) kind.placesAt 0 ≡ q = header kind.placesAt (lit< tt) in
       rw (le-ltb (length (laidOut q t)) kind.headerWords (omega arith), mark, size, a .0, le-ltb (length (laidOut q t)) (kind.size q) n, laid-table, empty-sound q (a .0))
 
   -- and nobody waits

@@ -5,7 +5,7 @@ use mathlib.Core.Path.{_≡_, refl, sym, ap, ap₂, _∙_}
 use Prim.Native.Nat.{ℕ, zero, suc, _+_, _*_, _-_, _≤_, _<_}
 use native.Mathlib.Nat.{mul-zero, mul-suc, add-comm, zero-add, not-suc-le-zero}
 use native.Mathlib.Omega.{arith}
-use lib.Dec.{eqb, ltb, lit<}
+use lib.Dec.{eqb, ltb}
 use lib.ListN.{length, set, replicate, take, drop, length-replicate, getD-replicate, length-append, length-drop, replicate-append-replicate}
 use lib.Seq.{drop-length, length-take-le, take-length, take-at, drop-at}
 use borrow.Author.Fill.{fill-more}
@@ -13,10 +13,9 @@ use borrow.Rule.Slice.PartMut.{midOf, postOf, putMid}
 use borrow.Author.Tests.{lt-ltb, le-ltb, eqb-true, eqb-false, ltb-true, ltb-false}
 use Rattle.table.specs.Kind as kind
 use Rattle.table.specs.Regions.{Regions, upto, rows, words, Sized, Writes, setItem, setClient}
-use Rattle.table.proofs.Fields.{each, header-fields, item-fields, client-fields, count-fields}
-use Rattle.table.proofs.Draw.{set-item, set-client}
+use Rattle.table.proofs.Fields.{header-fields, item-fields, client-fields, count-fields}
 use Rattle.table.proofs.Whole.{agree-words}
-use Rattle.table.proofs.Write.{then, write-header}
+use Rattle.table.proofs.Write.{then}
 use Rattle.rules.specs.Rows.{headOr}
 use Rattle.rules.specs.Steps.{empty, count-up}
 use Rattle.rules.specs.Draw.{after, afterIn, drawn, draw}
@@ -54,28 +53,27 @@ alike h i c n q v w =
     simp (upto-alike h v, upto-alike q w, rows-alike i q v, rows-alike c q v, rows-alike n q w, replicate-append-replicate (n * q) q w)
     (merge h (i * q) v _ ∙ merge (h + i * q) (c * q) v _)
 
-pub blank-words : (q n : ℕ) → n ≡ (kind.countWords + 1) * q → replicate (kind.countsFrom q) 0 ++ replicate n kind.none ≡ words q blank
+blank-words : (q m n : ℕ) → m ≡ kind.countsFrom q → n ≡ (kind.countWords + 1) * q → replicate m 0 ++ replicate n kind.none ≡ words q blank
 unfolding words
-blank-words q n h =
-    let upper : kind.countsFrom q ≡ kind.headerWords + kind.itemWords * q + kind.clientWords * q = omega arith in
+blank-words q m n f h =
+    let upper : m ≡ kind.headerWords + kind.itemWords * q + kind.clientWords * q = omega arith in
     let lower : n ≡ kind.countWords * q + q = omega arith in
     ap₂ (λ (a b : ℕ). replicate a 0 ++ replicate b kind.none) upper lower ∙ sym (alike kind.headerWords kind.itemWords kind.clientWords kind.countWords q 0 kind.none)
 
-pub cleared : (q : ℕ) (t a b : List ℕ) → Sized q t → a ≡ replicate (length (take (kind.countsFrom q) t)) 0
-    → b ≡ replicate (length (midOf (kind.countsFrom q) (length (a ++ drop (kind.countsFrom q) t) - kind.countsFrom q) (a ++ drop (kind.countsFrom q) t))) kind.none
-    → putMid (kind.countsFrom q) (length (a ++ drop (kind.countsFrom q) t) - kind.countsFrom q) (a ++ drop (kind.countsFrom q) t) b ≡ words q blank
-cleared q t a b s ea eb =
-    let from = kind.countsFrom q in
-    let xs = a ++ drop from t in
-    let part : length (take from t) ≡ from = length-take-le from t (omega (arith, s .long)) in
-    let la : length a ≡ from = ap length ea ∙ length-replicate _ 0 ∙ part in
-    let long : length xs - from ≡ length (drop from t) = rw (length-append, la, length-drop) (omega (arith, s .long)) in
-    let rest : drop from xs ≡ drop from t = drop-at a (drop from t) from la in
-    let mid : length (midOf from (length xs - from) xs) ≡ (kind.countWords + 1) * q = rw (rest, long) (ap length (take-length (drop from t)) ∙ length-drop from t ∙ omega (arith, s .long)) in
-    let post : postOf from (length xs - from) xs ≡ [] = rw (rest, long) (drop-length (drop from t)) in
-    let one : take from xs ≡ replicate from 0 = take-at a (drop from t) from la ∙ ea ∙ ap (λ (n : ℕ). replicate n 0) part in
-    let two : b ++ postOf from (length xs - from) xs ≡ replicate ((kind.countWords + 1) * q) kind.none = rw (post, append-nil) (eb ∙ ap (λ (n : ℕ). replicate n kind.none) mid) in
-    ap₂ _++_ one two ∙ blank-words q ((kind.countWords + 1) * q) refl
+pub cleared : (q n : ℕ) (t a b : List ℕ) → Sized q t → n ≡ kind.countsFrom q → a ≡ replicate (length (take n t)) 0
+    → b ≡ replicate (length (midOf n (length (a ++ drop n t) - n) (a ++ drop n t))) kind.none
+    → putMid n (length (a ++ drop n t) - n) (a ++ drop n t) b ≡ words q blank
+cleared q n t a b s is ea eb =
+    let xs = a ++ drop n t in
+    let part : length (take n t) ≡ n = length-take-le n t (omega (arith, s .long)) in
+    let la : length a ≡ n = ap length ea ∙ length-replicate _ 0 ∙ part in
+    let long : length xs - n ≡ length (drop n t) = rw (length-append, la, length-drop) (omega (arith, s .long)) in
+    let rest : drop n xs ≡ drop n t = drop-at a (drop n t) n la in
+    let mid : length (midOf n (length xs - n) xs) ≡ length t - n = rw (rest, long) (ap length (take-length (drop n t)) ∙ length-drop n t) in
+    let post : postOf n (length xs - n) xs ≡ [] = rw (rest, long) (drop-length (drop n t)) in
+    let one : take n xs ≡ replicate n 0 = take-at a (drop n t) n la ∙ ea ∙ ap (λ (m : ℕ). replicate m 0) part in
+    let two : b ++ postOf n (length xs - n) xs ≡ replicate (length t - n) kind.none = rw (post, append-nil) (eb ∙ ap (λ (m : ℕ). replicate m kind.none) mid) in
+    ap₂ _++_ one two ∙ blank-words q n (length t - n) is (omega (arith, s .long))
 
 -- chain: one row more
 
@@ -116,22 +114,9 @@ chain-none q =
     unchained true i = rw (le-ltb i 0 (omega arith))
     unchained false i = refl
 
-pub chain-on : (q r n : ℕ) (t : List ℕ) → r < q → n ≡ nextFree q r → t ≡ words q (chained q r)
-    → set (set t (kind.itemAt r kind.later) n) (kind.clientAt q r kind.heavier) n ≡ words q (chained q (r + 1))
-chain-on q r n t h en et =
-    rw (en, et)
-    (ap (λ (l : List ℕ). set l (kind.clientAt q r kind.heavier) (nextFree q r)) (set-item q (chained q r) r kind.later (nextFree q r) h (lit< tt))
-    ∙ set-client q (setItem r kind.later (nextFree q r) (chained q r)) r kind.heavier (nextFree q r) h (lit< tt)
-    ∙ one-more q r)
-
--- head: six words
-pub head-writes : (q : ℕ) (t : List ℕ)
-    → Writes q t (set (set (set (set (set (set t kind.markAt kind.mark) kind.sizeAt q) kind.frontAt kind.none) kind.backAt kind.none) kind.lightestAt kind.none) kind.heaviestAt kind.none) (headed q) 6
-head-writes q t =
-    then
-    (then (then (then (then (write-header q t kind.markAt kind.mark (lit< tt)) (write-header q _ kind.sizeAt q (lit< tt))) (write-header q _ kind.frontAt kind.none (lit< tt))) (write-header q _ kind.backAt kind.none (lit< tt)))
-    (write-header q _ kind.lightestAt kind.none (lit< tt)))
-    (write-header q _ kind.heaviestAt kind.none (lit< tt))
+pub chain-on : (q r n : ℕ) {t u v : List ℕ} → n ≡ nextFree q r → Writes q t u (setItem r kind.later n) → Writes q u v (setClient r kind.heavier n) → t ≡ words q (chained q r)
+    → v ≡ words q (chained q (r + 1))
+chain-on q r n e item client d = then item client .drawn (chained q r) d ∙ rw e (one-more q r)
 
 -- all of it draws the empty picture
 
@@ -163,9 +148,8 @@ laid (suc n) h =
     let L : Regions = headed q (chained q q) in
     let D : Regions = drawn (empty q) in
     let link : (r : ℕ) → r < q → cond (ltb r q) (nextFree q r) 0 ≡ after 0 (count-up q 0) r = λ r l. rw (lt-ltb r q l) (sym (after-up q 0 r (omega arith) (omega arith) ∙ rw zero-add)) in
-    let zeros = each kind.zeros (λ z. L .header (kind.zerosAt + z) ≡ D .header (kind.zerosAt + z)) (refl, (refl, (refl, (refl, (refl, (refl, tt)))))) in
     agree-words (record {
-      header = header-fields (λ f. L .header f ≡ D .header f) refl refl refl refl refl refl refl refl refl refl zeros;
+      header = header-fields (λ f. L .header f ≡ D .header f) refl refl refl refl refl refl refl refl refl refl (refl, (refl, (refl, (refl, (refl, (refl, tt))))));
       item = λ r f l. item-fields (λ f. L .item r f ≡ D .item r f) refl refl refl (link r l) refl refl f;
       client = λ r f l. client-fields (λ f. L .client r f ≡ D .client r f) refl refl refl (link r l) refl refl (no-next q r) f;
       count = λ r f l. count-fields (λ f. L .count r f ≡ D .count r f) refl refl f;

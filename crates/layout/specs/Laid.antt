@@ -29,4 +29,4 @@ abbrev pub headed : ℕ → Regions → Regions
 headed q R =
     setHeader kind.heaviestAt kind.none
     (setHeader kind.lightestAt kind.none
-    (setHeader kind.backAt kind.none (setHeader kind.frontAt kind.none (setHeader kind.sizeAt q (setHeader kind.markAt kind.mark R)))))
+    (setHeader kind.backAt kind.none (setHeader kind.frontAt kind.none (setHeader kind.placesAt q (setHeader kind.markAt kind.mark R)))))

@@ -1,2 +1,3 @@
--- What the parts of lay-out cite; its promise is in crate rules (specs/Verdict.antt).
+-- What the parts of lay-out and of carve cite; their promises are in crate rules (specs/Verdict.antt).
 pub mod Laid
+pub mod Carve

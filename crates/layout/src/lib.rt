@@ -1,6 +1,6 @@
 // Lay-out and carve: the two calls that make a table out of words that the host lends. Neither asks anything of them.
 ghost use mathlib.Core.Path.{_≡_};
-ghost use Prim.Native.Nat.{_+_, _≤_, _<_};
+ghost use Prim.Native.Nat.{_≤_, _<_};
 ghost use lib.ListN.{length, replicate};
 ghost use Rattle.table.specs.Kind as kind;
 ghost use Rattle.table.specs.Regions.{Sized, Writes, words};
@@ -8,6 +8,8 @@ ghost use Rattle.rules.specs.Steps.{empty};
 ghost use Rattle.rules.specs.Draw.{draw};
 ghost use Rattle.rules.specs.Verdict.{layOutNumber, laidOut, carved, placed};
 ghost use Rattle.layout.specs.Laid.{blank, nextFree, chained, headed};
+ghost use Rattle.layout.specs.Carve.{partOf};
+use answers::Refusal;
 use table::LinkedTable;
 
 // Every word of the part becomes v.
@@ -26,18 +28,18 @@ fn clear(t: &mut [u32], q: usize)
     requires { ⌜ Sized q (now t) ⌝ }
     ensures { λ _. ⌜ now (t .exit) ≡ words q blank ⌝ }
 {
-    let from = LinkedTable::HEADER + LinkedTable::TO_COUNTS * q;
+    let from = LinkedTable::counts_from(q);
     fill(&mut t[..from], 0);
     fill(&mut t[from..], LinkedTable::NONE);
 }
 
 // The row that a free row chains to.
-fn next_free(q: usize, r: usize) -> u32
+fn next_free(q: usize, r: u32) -> u32
     requires { ⌜ (q ≤ kind.largest) × (r < q) ⌝ }
     ensures { λ n. ⌜ n ≡ nextFree q r ⌝ }
 {
-    if r + 1 < q {
-        (r + 1) as u32
+    if (r as usize) + 1 < q {
+        r + 1
     } else {
         LinkedTable::NONE
     }
@@ -50,13 +52,10 @@ fn chain(t: &mut [u32], q: usize)
     ensures { λ _. ⌜ now (t .exit) ≡ words q (chained q q) ⌝ }
 {
     let mut r = 0;
-    while r < q {
+    while (r as usize) < q {
         let n = next_free(q, r);
-        t[LinkedTable::HEADER + LinkedTable::ITEM * r + LinkedTable::LATER] = n;
-        t[LinkedTable::HEADER
-            + LinkedTable::ITEM * q
-            + LinkedTable::CLIENT * r
-            + LinkedTable::HEAVIER] = n;
+        table::set_item(t, q, r, LinkedTable::LATER, n);
+        table::set_client(t, q, r, LinkedTable::HEAVIER, n);
         r += 1;
     }
 }
@@ -64,14 +63,14 @@ fn chain(t: &mut [u32], q: usize)
 // The header's words that are not 0.
 fn head(t: &mut [u32], q: usize)
     requires { ⌜ Sized q (now t) ⌝ }
-    ensures { λ _. ⌜ Writes q (now (t .entry)) (now (t .exit)) (headed q) 6 ⌝ }
+    ensures { λ _. ⌜ Writes q (now (t .entry)) (now (t .exit)) (headed q) ⌝ }
 {
-    t[LinkedTable::MARK_AT] = LinkedTable::MARK;
-    t[LinkedTable::SIZE_AT] = q as u32;
-    t[LinkedTable::FRONT_AT] = LinkedTable::NONE;
-    t[LinkedTable::BACK_AT] = LinkedTable::NONE;
-    t[LinkedTable::LIGHTEST_AT] = LinkedTable::NONE;
-    t[LinkedTable::HEAVIEST_AT] = LinkedTable::NONE;
+    table::set_header(t, q, LinkedTable::MARK_AT, LinkedTable::MARK);
+    table::set_header(t, q, LinkedTable::PLACES_AT, q as u32);
+    table::set_header(t, q, LinkedTable::FRONT_AT, LinkedTable::NONE);
+    table::set_header(t, q, LinkedTable::BACK_AT, LinkedTable::NONE);
+    table::set_header(t, q, LinkedTable::LIGHTEST_AT, LinkedTable::NONE);
+    table::set_header(t, q, LinkedTable::HEAVIEST_AT, LinkedTable::NONE);
 }
 
 // Every word of a table of q places, after a lay-out.
@@ -85,20 +84,44 @@ fn lay(t: &mut [u32], q: usize)
     head(t, q);
 }
 
-// Lays a table of q places out in the first words of t: 0, or 1 where Q is out of range, 2 where t is too short.
+// Lays a table of q places out in the first words of t: 0, or the refusal number where Q is out of range or t too short.
 pub fn lay_out(t: &mut [u32], q: usize) -> u32
     ensures number { λ r. ⌜ r ≡ layOutNumber q (length (now (t .entry))) ⌝ }
     ensures words { λ _. ⌜ now (t .exit) ≡ laidOut q (now (t .entry)) ⌝ }
 {
     if !LinkedTable::in_range(q) {
-        return 1;
+        return Refusal::OUT_OF_RANGE;
     }
     let need = LinkedTable::size(q);
     if t.len() < need {
-        return 2;
+        return Refusal::TOO_SHORT;
     }
     lay(&mut t[..need], q);
     0
+}
+
+// Where a part of a pool begins and ends.
+struct Part {
+    from: usize,
+    to: usize,
+}
+
+// The part that a table of q places takes of a pool of len words, from the start on; an empty one where there is none.
+// The end is worked out once it is known to fit: the start may be any number.
+fn part_of(len: usize, start: usize, q: usize) -> Part
+    ensures { λ p. ⌜ p ≡ partOf len start q ⌝ }
+{
+    let none = Part { from: 0, to: 0 };
+    if !LinkedTable::in_range(q) || len < start {
+        return none;
+    }
+    let need = LinkedTable::size(q);
+    let rest = len - start;
+    if rest < need {
+        return none;
+    }
+    let to = start + need;
+    Part { from: start, to }
 }
 
 // The part of the pool that a table of q places takes from the start on, or an empty part where there is none.
@@ -106,15 +129,8 @@ pub fn carve(pool: &mut [u32], start: usize, q: usize) -> &mut [u32]
     ensures words { λ r. ⌜ now r ≡ carved (now (pool .entry)) start q ⌝ }
     ensures place { λ r. ⌜ r .ptr ≡ placed (pool .entry .ptr) (now (pool .entry)) start q ⌝ }
 {
-    if !LinkedTable::in_range(q) {
-        return &mut pool[..0];
-    }
-    if start > pool.len() {
-        return &mut pool[..0];
-    }
-    let need = LinkedTable::size(q);
-    if pool.len() - start < need {
-        return &mut pool[..0];
-    }
-    &mut pool[start..start + need]
+    let part = part_of(pool.len(), start, q);
+    let from = part.from;
+    let to = part.to;
+    &mut pool[from..to]
 }

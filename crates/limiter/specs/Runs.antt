@@ -1,18 +1,16 @@
 -- What a run reports on lent words, and the words after it.
 use mathlib.Core.List.{List}
 use Prim.Native.Nat.{ℕ}
-use lib.ListN.{take}
 use Rattle.rules.specs.Run.{carried, nextAll}
-use Rattle.rules.specs.Sound.{picture}
-use Rattle.rules.specs.Verdict.{room, afterwards}
-use Rattle.run.specs.declared.Ran.{Ran}
-use Rattle.run.specs.Tally.{none, halted}
+use Rattle.rules.specs.Verdict.{afterwards}
+use Rattle.answers.specs.declared.Ran.{Ran}
+use Rattle.answers.specs.declared.Ran.the-variants as ran
 use Rattle.run.specs.Runs.{reported}
-use Rattle.limiter.specs.Lent.{orRefused}
+use Rattle.limiter.specs.Lent.{lent, orRefused}
 
--- a run refused with 2 or 3 reports that number as its stop, and nothing carried out
+-- the report with a budget b on the bytes s, or a refusal
 abbrev pub runAnswer : ℕ → List ℕ → List ℕ → Ran
-runAnswer b s t = orRefused (λ n. halted n none) t (reported (picture (take (room t) t)) b s)
+runAnswer b s t = orRefused ran.Refused t (ran.Reported (reported (lent t) b s))
 
 -- the commands before the stop stand
 abbrev pub runWords : ℕ → List ℕ → List ℕ → List ℕ

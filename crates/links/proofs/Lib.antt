@@ -3,3 +3,4 @@ pub mod Lists
 pub mod Strands
 pub mod Pools
 pub mod Few
+pub mod Stays

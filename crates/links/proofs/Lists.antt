@@ -21,14 +21,6 @@ run-so b o b′ o′ p h h′ (x ∷ xs) n l l′ eh el g r =
     let a = g x (inl refl) in
     (sym eh ∙ r .0, sym (a .0) ∙ r .1, run-so b o b′ o′ x (o x) (o′ x) xs n l l′ (a .1) el (λ y i. g y (inr i)) (r .2))
 
--- and the other way: a list fixes its columns at its rows, and its ends
-pub run-unique : (b o b′ o′ : ℕ → ℕ) (p h h′ : ℕ) (xs : List ℕ) (n l l′ : ℕ) → Run b o p h xs n l → Run b′ o′ p h′ xs n l′
-    → (h ≡ h′) × (l ≡ l′) × ((x : ℕ) → In x xs → (b x ≡ b′ x) × (o x ≡ o′ x))
-run-unique b o b′ o′ p h h′ [] n l l′ r s = (r .0 ∙ sym (s .0), r .1 ∙ sym (s .1), λ x i. absurd i)
-run-unique b o b′ o′ p h h′ (x ∷ xs) n l l′ r s =
-    let u = run-unique b o b′ o′ x (o x) (o′ x) xs n l l′ (r .2) (s .2) in
-    (r .0 ∙ sym (s .0), u .1, λ y i. ⊎-elim (λ e. rw e (r .1 ∙ sym (s .1), u .0)) (λ j. u .2 y j) i)
-
 -- rings: the pointer into the run is that on from p, and the one back into it is that from n
 
 abbrev Ring : (ℕ → ℕ) → (ℕ → ℕ) → ℕ → List ℕ → ℕ → Type 0
@@ -128,6 +120,13 @@ ring-meet b o p [] [] n r = r
 ring-meet b o p [] (y ∷ ys) n r = (r .0, r .1)
 ring-meet b o p (x ∷ xs) ys n r = ring-meet b o x xs ys n (r .2)
 
+-- each row is the one on from the one before it, and back from the one after
+ring-there : (b o : ℕ → ℕ) (p : ℕ) (xs : List ℕ) (n r : ℕ) → Ring b o p xs n → In r xs → (o (b r) ≡ r) × (b (o r) ≡ r)
+ring-there b o p [] n r k i = absurd i
+ring-there b o p (x ∷ xs) n r k i =
+    let (on, back) = ring-meet b o x [] xs n (k .2) in
+    ⊎-elim (λ e. rw e (ap o (k .1) ∙ k .0, ap b on ∙ back)) (ring-there b o x xs n r (k .2)) i
+
 module _ (q : ℕ) (hq : q ≤ kind.largest) where
   row : (rs : List ℕ) → Below q rs → (x : ℕ) → In x rs → x ≡ kind.none → ⊥
   row rs b x i e = omega (arith, in-below q rs b x i)
@@ -142,6 +141,12 @@ module _ (q : ℕ) (hq : q ≤ kind.largest) where
   pub meet : (L : Links) (xs ys : List ℕ) → Linked q L (xs ++ ys)
       → (at (L .on) kind.none (L .first) (lastOr kind.none xs) ≡ headOr kind.none ys) × (at (L .back) kind.none (L .last) (headOr kind.none ys) ≡ lastOr kind.none xs)
   meet L xs ys k = ring-meet _ _ kind.none xs ys kind.none (ring L (xs ++ ys) k)
+
+  pub there-and-back : (L : Links) (rs : List ℕ) (r : ℕ) → Linked q L rs → In r rs
+      → (at (L .on) kind.none (L .first) (L .back r) ≡ r) × (at (L .back) kind.none (L .last) (L .on r) ≡ r)
+  there-and-back L rs r k i =
+      let n = row rs (k .below) r i in
+      rw (at-other (L .back) kind.none (L .last) r n, at-other (L .on) kind.none (L .first) r n) at (ring-there _ _ kind.none rs kind.none r (ring L rs k) i)
 
   not-row : (rs : List ℕ) → Below q rs → NotIn kind.none rs
   not-row rs b = past q kind.none rs (omega arith) b

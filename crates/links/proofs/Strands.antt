@@ -11,7 +11,9 @@ use borrow.Author.Tests.{eqb-true, eqb-false, ne-eqb}
 use Rattle.table.specs.Kind as kind
 use Rattle.table.specs.Regions.{Regions, words, upd, Sized, Writes}
 use Rattle.table.proofs.Draw.{cond-same, upto-agree, rows-agree, get-header, set-header, get-item, set-item, get-client, set-client}
-use Rattle.table.proofs.Write.{one, then, so-read, sized-after}
+use Rattle.table.proofs.Fields.{header-fields, client-fields}
+use Rattle.table.proofs.Whole.{agree-words}
+use Rattle.table.proofs.Write.{one, then, drawn-so, so-read, sized-after}
 use Rattle.rules.specs.Linked.{Link}
 use Rattle.links.specs.declared.Places.{Places}
 use Rattle.links.specs.Strands.{Region, header, items, clients, place, put, Strand, theWindow, theOrder, theOwn, linkTo, turnIn, unlinkIn, insertIn, pushIn}
@@ -73,12 +75,21 @@ module _ (q : ℕ) where
   client-stands =
       record { read = get-client q; write = set-client q; agree = client-agree q; whole = λ R. refl; again = λ R a r f v. refl; within = λ r f h hf. omega arith }
 
+module _ {q : ℕ} {g : Region} (K : Stands q g) (R : Regions) (r f : ℕ) where
+  -- a row past the last is not drawn
+  pub past : (v : ℕ) → g .number q ≤ r → words q (put g r f v R) ≡ words q R
+  past v h =
+      K .agree R (upd (g .word R) r f v) (g .word R) (λ i j hi hj. upd-other (g .word R) r f v i j (λ z. omega arith)) ∙ ap (words q) (K .whole R)
+
+  -- a word that stays
+  pub stays : words q (put g r f (g .word R r f) R) ≡ words q R
+  stays = K .agree R (upd (g .word R) r f (g .word R r f)) (g .word R) (λ i j hi hj. upd-same (g .word R) r f i j) ∙ ap (words q) (K .whole R)
+
 -- a strand whose rows and ends stand in the words
 pub record Lens (q : ℕ) (s : Strand) : Type 0 where
   pub rows : Stands q (s .rows)
   pub ends : Stands q (s .ends)
-  pub small : s .rows .number q ≤ kind.none
-  pub holder : s .holder < s .ends .number q
+  pub small : s .rows .number q ≤ kind.largest
   pub back : s .back < s .rows .width
   pub on : s .on < s .rows .width
   pub first : s .first < s .ends .width
@@ -87,29 +98,17 @@ pub record Lens (q : ℕ) (s : Strand) : Type 0 where
 module _ (q : ℕ) (hq : q ≤ kind.largest) where
   pub window-lens : Lens q theWindow
   window-lens =
-      record { rows = item-stands q; ends = header-stands q; small = omega arith; holder = lit< tt; back = lit< tt; on = lit< tt; first = lit< tt; last = lit< tt }
+      record { rows = item-stands q; ends = header-stands q; small = hq; back = lit< tt; on = lit< tt; first = lit< tt; last = lit< tt }
 
   pub order-lens : Lens q theOrder
   order-lens =
-      record { rows = client-stands q; ends = header-stands q; small = omega arith; holder = lit< tt; back = lit< tt; on = lit< tt; first = lit< tt; last = lit< tt }
+      record { rows = client-stands q; ends = header-stands q; small = hq; back = lit< tt; on = lit< tt; first = lit< tt; last = lit< tt }
 
-  pub own-lens : (c : ℕ) → c < q → Lens q (theOwn c)
-  own-lens c h =
-      record { rows = item-stands q; ends = client-stands q; small = omega arith; holder = h; back = lit< tt; on = lit< tt; first = lit< tt; last = lit< tt }
+  pub own-lens : (c : ℕ) → Lens q (theOwn c)
+  own-lens c =
+      record { rows = item-stands q; ends = client-stands q; small = hq; back = lit< tt; on = lit< tt; first = lit< tt; last = lit< tt }
 
-module _ {q : ℕ} {s : Strand} (K : Lens q s) where
-  -- a row past the last is not drawn
-  past : (R : Regions) (r f v : ℕ) → s .rows .number q ≤ r → words q (put (s .rows) r f v R) ≡ words q R
-  past R r f v h =
-      K .rows .agree R (upd (s .rows .word R) r f v) (s .rows .word R) (λ i j hi hj. upd-other (s .rows .word R) r f v i j (λ z. omega arith))
-      ∙ ap (words q) (K .rows .whole R)
-
-  -- an end that stays
-  stays : (R : Regions) (a : ℕ) → words q (put (s .ends) (s .holder) a (s .ends .word R (s .holder) a) R) ≡ words q R
-  stays R a =
-      K .ends .agree R (upd (s .ends .word R) (s .holder) a (s .ends .word R (s .holder) a)) (s .ends .word R) (λ i j hi hj. upd-same (s .ends .word R) (s .holder) a i j)
-      ∙ ap (words q) (K .ends .whole R)
-
+module _ {q : ℕ} {s : Strand} (K : Lens q s) (held : s .holder < s .ends .number q) where
   -- a link is written at its place: in the row, or at the end
   link-write : (R : Regions) (f a e v : ℕ) → f < s .rows .width → a < s .ends .width → Link (s .rows .number q) e
       → set (words q R) (linkAt (places q s) f (place q (s .ends) (s .holder) a) e) v ≡ words q (linkTo s f a e v R)
@@ -119,14 +118,14 @@ module _ {q : ℕ} {s : Strand} (K : Lens q s) where
           → set (words q R) (cond b (place q (s .ends) (s .holder) a) (place q (s .rows) e f)) v
           ≡ words q (put (s .rows) e f v (put (s .ends) (s .holder) a (cond b v (s .ends .word R (s .holder) a)) R))
       go true h =
-          K .ends .write R (s .holder) a v (K .holder) ha
-          ∙ sym (past (put (s .ends) (s .holder) a v R) e f v (omega (arith, K .small, eqb-true kind.none e h)))
+          K .ends .write R (s .holder) a v held ha
+          ∙ sym (past (K .rows) (put (s .ends) (s .holder) a v R) e f v (omega (arith, K .small, eqb-true kind.none e h)))
       go false h =
-          ap (λ (t : List ℕ). set t (place q (s .rows) e f) v) (sym (stays R a))
+          ap (λ (t : List ℕ). set t (place q (s .rows) e f) v) (sym (stays (K .ends) R (s .holder) a))
           ∙ K .rows .write (put (s .ends) (s .holder) a (s .ends .word R (s .holder) a) R) e f v (k (λ z. eqb-false kind.none e h (sym z))) hf
 
-  turn-writes : (t : List ℕ) (e v l w : ℕ) → Link (s .rows .number q) e → Link (s .rows .number q) l
-      → Writes q t (turned (places q s) e v l w t) (turnIn s e v l w) 2
+  pub turn-writes : (t : List ℕ) (e v l w : ℕ) → Link (s .rows .number q) e → Link (s .rows .number q) l
+      → Writes q t (turned (places q s) e v l w t) (turnIn s e v l w)
   turn-writes t e v l w ke kl =
       then (one q t _ v (linkTo s (s .on) (s .first) e v) (λ R. link-write R (s .on) (s .first) e v (K .on) (K .first) ke))
       (one q _ _ w (linkTo s (s .back) (s .last) l w) (λ R. link-write R (s .back) (s .last) l w (K .back) (K .last) kl))
@@ -136,27 +135,33 @@ module _ {q : ℕ} {s : Strand} (K : Lens q s) where
   row-read R t r f d hr hf = ap (λ (l : List ℕ). getD l (place q (s .rows) r f) 0) d ∙ K .rows .read R r f hr hf
 
   unlink-writes : (t : List ℕ) (r : ℕ) → r < s .rows .number q → Link (s .rows .number q) (backWord (places q s) t r) → Link (s .rows .number q) (onWord (places q s) t r)
-      → Writes q t (unlinked (places q s) r t) (unlinkIn s r) 2
+      → Writes q t (unlinked (places q s) r t) (unlinkIn s r)
   unlink-writes t r hr ke kl =
       so-read (turn-writes t (backWord (places q s) t r) (onWord (places q s) t r) (onWord (places q s) t r) (backWord (places q s) t r) ke kl)
       (λ R d. ap₂ (λ (e l : ℕ). turnIn s e l l e R) (row-read R t r (s .back) d hr (K .back)) (row-read R t r (s .on) d hr (K .on)))
 
-  insert-writes : (t : List ℕ) (r e l : ℕ) → r < s .rows .number q → Link (s .rows .number q) e → Link (s .rows .number q) l
-      → Writes q t (inserted (places q s) r e l t) (insertIn s r e l) 4
+  pub insert-writes : (t : List ℕ) (r e l : ℕ) → r < s .rows .number q → Link (s .rows .number q) e → Link (s .rows .number q) l
+      → Writes q t (inserted (places q s) r e l t) (insertIn s r e l)
   insert-writes t r e l hr ke kl =
       then (then (one q t _ e (put (s .rows) r (s .back) e) (λ R. K .rows .write R r (s .back) e hr (K .back)))
       (one q _ _ l (put (s .rows) r (s .on) l) (λ R. K .rows .write R r (s .on) l hr (K .on))))
       (turn-writes _ e r l r ke kl)
 
+  -- after the row e: before the one that its link on showed
+  after-writes : (t : List ℕ) (r e : ℕ) → r < s .rows .number q → e < s .rows .number q → Link (s .rows .number q) (onWord (places q s) t e)
+      → Writes q t (inserted (places q s) r e (onWord (places q s) t e) t) (λ R. insertIn s r e (s .rows .word R e (s .on)) R)
+  after-writes t r e hr he k =
+      so-read (insert-writes t r e (onWord (places q s) t e) hr (λ _. he) k) (λ R d. ap (λ (l : ℕ). insertIn s r e l R) (row-read R t e (s .on) d he (K .on)))
+
   push-writes : (t : List ℕ) (r : ℕ) → r < s .rows .number q → Link (s .rows .number q) (getD t (places q s .last) 0)
-      → Writes q t (pushed (places q s) r t) (pushIn s r) 4
+      → Writes q t (pushed (places q s) r t) (pushIn s r)
   push-writes t r hr k =
       so-read (insert-writes t r (getD t (places q s .last) 0) kind.none hr k (λ n. absurd (n refl)))
-      (λ R d. ap (λ (e : ℕ). insertIn s r e kind.none R) (ap (λ (l : List ℕ). getD l (places q s .last) 0) d ∙ K .ends .read R (s .holder) (s .last) (K .holder) (K .last)))
+      (λ R d. ap (λ (e : ℕ). insertIn s r e kind.none R) (ap (λ (l : List ℕ). getD l (places q s .last) 0) d ∙ K .ends .read R (s .holder) (s .last) held (K .last)))
 
   -- what the one code asks of a table of its size
   ends-within : {t : List ℕ} → Sized q t → Ends (length t) (places q s)
-  ends-within z = rw (z .long) (K .ends .within (s .holder) (s .first) (K .holder) (K .first), K .ends .within (s .holder) (s .last) (K .holder) (K .last))
+  ends-within z = rw (z .long) (K .ends .within (s .holder) (s .first) held (K .first), K .ends .within (s .holder) (s .last) held (K .last))
 
   row-within : {t : List ℕ} → Sized q t → (r : ℕ) → r < s .rows .number q → Row (length t) (places q s) r
   row-within z r h = rw (z .long) (K .rows .within r (s .back) h (K .back), K .rows .within r (s .on) h (K .on))
@@ -164,28 +169,72 @@ module _ {q : ℕ} {s : Strand} (K : Lens q s) where
   reach : {t : List ℕ} → Sized q t → (e : ℕ) → Link (s .rows .number q) e → Reach (length t) (places q s) e
   reach z e k n = row-within z e (k n)
 
-done : {q : ℕ} {a b : List ℕ} {f : Regions → Regions} {k : ℕ} → Sized q a → Writes q a b f k → Writes q a b f k × Sized q b
+-- another step that draws the same where the table is drawn from R
+pub so-drawn : {q : ℕ} {a b : List ℕ} {f g : Regions → Regions} → Writes q a b f → ((R : Regions) → a ≡ words q R → words q (f R) ≡ words q (g R)) → Writes q a b g
+so-drawn x h = record { drawn = λ R e. x .drawn R e ∙ h R e; sized = x .sized }
+
+done : {q : ℕ} {a b : List ℕ} {f : Regions → Regions} → Sized q a → Writes q a b f → Writes q a b f × Sized q b
 done z w = (w, sized-after z w)
 
 -- the functions of each list, from what they require. (p is the strand's places, as the code has them)
-module _ {q : ℕ} {s : Strand} (K : Lens q s) {p : Places} (e : p ≡ places q s) {t : List ℕ} where
+module _ {q : ℕ} {s : Strand} (K : Lens q s) (held : s .holder < s .ends .number q) {p : Places} (e : p ≡ places q s) {t : List ℕ} where
   module _ (r : ℕ) (pre : Sized q t × ((r < s .rows .number q) × (Link (s .rows .number q) (backWord (places q s) t r) × Link (s .rows .number q) (onWord (places q s) t r)))) where
     pub unlink-asks : Ends (length t) p × (Row (length t) p r × (Reach (length t) p (backWord p t r) × Reach (length t) p (onWord p t r)))
-    unlink-asks = let z = pre .0 in rw e (ends-within K z, (row-within K z r (pre .1 .0), (reach K z _ (pre .1 .1 .0), reach K z _ (pre .1 .1 .1))))
+    unlink-asks =
+        let (z, (hr, (back, on))) = pre in
+        rw e (ends-within K held z, (row-within K held z r hr, (reach K held z _ back, reach K held z _ on)))
 
-    pub unlink-does : {b : List ℕ} → b ≡ unlinked p r t → Writes q t b (unlinkIn s r) 2 × Sized q b
-    unlink-does d = done (pre .0) (rw (d, e) (unlink-writes K t r (pre .1 .0) (pre .1 .1 .0) (pre .1 .1 .1)))
+    pub unlink-does : {b : List ℕ} → b ≡ unlinked p r t → Writes q t b (unlinkIn s r) × Sized q b
+    unlink-does d = let (z, (hr, (back, on))) = pre in done z (rw (d, e) (unlink-writes K held t r hr back on))
 
   module _ (r u l : ℕ) (pre : Sized q t × ((r < s .rows .number q) × (Link (s .rows .number q) u × Link (s .rows .number q) l))) where
     pub insert-asks : Ends (length t) p × (Row (length t) p r × (Reach (length t) p u × Reach (length t) p l))
-    insert-asks = let z = pre .0 in rw e (ends-within K z, (row-within K z r (pre .1 .0), (reach K z u (pre .1 .1 .0), reach K z l (pre .1 .1 .1))))
+    insert-asks =
+        let (z, (hr, (hu, hl))) = pre in
+        rw e (ends-within K held z, (row-within K held z r hr, (reach K held z u hu, reach K held z l hl)))
 
-    pub insert-does : {b : List ℕ} → b ≡ inserted p r u l t → Writes q t b (insertIn s r u l) 4 × Sized q b
-    insert-does d = done (pre .0) (rw (d, e) (insert-writes K t r u l (pre .1 .0) (pre .1 .1 .0) (pre .1 .1 .1)))
+    pub insert-does : {b : List ℕ} → b ≡ inserted p r u l t → Writes q t b (insertIn s r u l) × Sized q b
+    insert-does d = let (z, (hr, (hu, hl))) = pre in done z (rw (d, e) (insert-writes K held t r u l hr hu hl))
+
+  module _ (r u : ℕ) (pre : Sized q t × ((r < s .rows .number q) × ((u < s .rows .number q) × Link (s .rows .number q) (onWord (places q s) t u)))) where
+    pub after-asks : Ends (length t) p × (Row (length t) p r × ((Row (length t) p u × (u < kind.none)) × Reach (length t) p (onWord p t u)))
+    after-asks =
+        let (z, (hr, (hu, on))) = pre in
+        rw e (ends-within K held z, (row-within K held z r hr, ((row-within K held z u hu, omega (arith, hu, K .small)), reach K held z _ on)))
+
+    pub after-does : {b : List ℕ} → b ≡ inserted p r u (onWord p t u) t → Writes q t b (λ R. insertIn s r u (s .rows .word R u (s .on)) R) × Sized q b
+    after-does d = let (z, (hr, (hu, on))) = pre in done z (rw (d, e) (after-writes K held t r u hr hu on))
 
   module _ (r : ℕ) (pre : Sized q t × ((r < s .rows .number q) × Link (s .rows .number q) (getD t (places q s .last) 0))) where
     pub push-asks : Ends (length t) p × (Row (length t) p r × Reach (length t) p (getD t (p .last) 0))
-    push-asks = let z = pre .0 in rw e (ends-within K z, (row-within K z r (pre .1 .0), reach K z _ (pre .1 .1)))
+    push-asks = let (z, (hr, last)) = pre in rw e (ends-within K held z, (row-within K held z r hr, reach K held z _ last))
 
-    pub push-does : {b : List ℕ} → b ≡ pushed p r t → Writes q t b (pushIn s r) 4 × Sized q b
-    push-does d = done (pre .0) (rw (d, e) (push-writes K t r (pre .1 .0) (pre .1 .1)))
+    pub push-does : {b : List ℕ} → b ≡ pushed p r t → Writes q t b (pushIn s r) × Sized q b
+    push-does d = let (z, (hr, last)) = pre in done z (rw (d, e) (push-writes K held t r hr last))
+
+-- the order read from its other end: what is inserted after a row there comes before it here
+
+abbrev pub fromHeaviest : Strand
+fromHeaviest =
+    record { rows = clients; back = kind.heavier; on = kind.lighter; ends = header; holder = 0; first = kind.heaviestAt; last = kind.lightestAt }
+
+pub heaviest-lens : (q : ℕ) → q ≤ kind.largest → Lens q fromHeaviest
+heaviest-lens q hq =
+    record { rows = client-stands q; ends = header-stands q; small = hq; back = lit< tt; on = lit< tt; first = lit< tt; last = lit< tt }
+
+same-insert : (q r e l : ℕ) (R : Regions) → words q (insertIn fromHeaviest r l e R) ≡ words q (insertIn theOrder r e l R)
+same-insert q r e l R =
+    let A : Regions = insertIn fromHeaviest r l e R in
+    let B : Regions = insertIn theOrder r e l R in
+    agree-words {R = A} {S = B}
+    (record {
+      header = header-fields (λ f. A .header f ≡ B .header f) refl refl refl refl refl refl refl refl refl refl (refl, (refl, (refl, (refl, (refl, (refl, tt))))));
+      item = λ x f _ _. refl;
+      client = λ x f _. client-fields (λ f. A .client x f ≡ B .client x f) refl refl refl refl refl refl refl f;
+      count = λ x f _ _. refl;
+      bucket = λ b _. refl;
+    })
+
+pub before-does : {q : ℕ} {a b : List ℕ} (r l : ℕ) → Writes q a b (λ R. insertIn fromHeaviest r l (R .client l kind.lighter) R) × Sized q b
+    → Writes q a b (λ R. insertIn theOrder r (R .client l kind.lighter) l R) × Sized q b
+before-does {q} r l w = (drawn-so (w .0) (λ R. same-insert q r (R .client l kind.lighter) l R), w .1)

@@ -60,3 +60,7 @@ inserted p r e l t = turned p e r l r (set (set t (wordAt p r (p .back)) e) (wor
 -- with row r in it after the last
 abbrev pub pushed : Places → ℕ → List ℕ → List ℕ
 pushed p r t = inserted p r (getD t (p .last) 0) kind.none t
+
+-- the same list read from its other end
+abbrev pub otherWay : Places → Places
+otherWay p = record { rows = p .rows; width = p .width; back = p .on; on = p .back; first = p .last; last = p .first }

@@ -1,14 +1,11 @@
 -- The free rows of a kind: chained from a header word, every other word 0.
 use mathlib.Core.List.{List}
 use mathlib.Core.Bool.{cond}
-use mathlib.Core.Path.{_≡_}
-use Prim.Native.Nat.{ℕ, zero, suc, _+_, _<_}
+use Prim.Native.Nat.{ℕ, zero, suc, _+_}
 use lib.Dec.{eqb}
 use lib.ListN.{set}
 use Rattle.table.specs.Kind as kind
 use Rattle.table.specs.Regions.{Regions, setHeader}
-use Rattle.rules.specs.Rows.{In}
-use Rattle.rules.specs.Linked.{Chain}
 use Rattle.links.specs.Strands.{Region, items, clients}
 
 -- the rows, the header word of the first free one, and the word by which they chain
@@ -17,23 +14,17 @@ pub record Pool : Type 0 where
   pub head : ℕ
   pub link : ℕ
 
+-- the free item rows
 abbrev pub freeItems : Pool
 freeItems = record { rows = items; head = kind.freeItemAt; link = kind.later }
 
+-- the free client rows
 abbrev pub freeClients : Pool
 freeClients = record { rows = clients; head = kind.freeClientAt; link = kind.heavier }
 
 -- row r with v in its word c and 0 in the others
 abbrev pub blank : (ℕ → ℕ → ℕ) → ℕ → ℕ → ℕ → ℕ → ℕ → ℕ
 blank g r c v = λ i j. cond (eqb j c) (cond (eqb i r) v (g i j)) (cond (eqb i r) 0 (g i j))
-
--- rows of w words that are free: chained by word c from h on, the other words 0
-pub record Spare (w : ℕ) (g : ℕ → ℕ → ℕ) (c h : ℕ) (rs : List ℕ) : Type 0 where
-  pub chain : Chain (λ r. g r c) h rs
-  pub zeros : (r : ℕ) → In r rs → (f : ℕ) → f < w → (f ≡ c → ⊥) → g r f ≡ 0
-
-abbrev pub Free : Pool → Regions → List ℕ → Type 0
-Free P R rs = Spare (P .rows .width) (P .rows .word R) (P .link) (R .header (P .head)) rs
 
 -- the first free row is taken: the next is the first
 abbrev pub takeFrom : Pool → Regions → Regions

@@ -24,6 +24,7 @@ header =
       with = λ g R. record { header = g 0; item = R .item; client = R .client; count = R .count; bucket = R .bucket };
     }
 
+-- the item rows
 abbrev pub items : Region
 items =
     record {
@@ -34,6 +35,7 @@ items =
       with = λ g R. record { header = R .header; item = g; client = R .client; count = R .count; bucket = R .bucket };
     }
 
+-- the client rows
 abbrev pub clients : Region
 clients =
     record {

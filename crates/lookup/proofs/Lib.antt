@@ -1,6 +1,7 @@
--- What the proofs of the lookup share.
-pub mod Writers
-pub mod Walks
-pub mod Rooms
-pub mod Ready
-pub mod Few
+-- What the proofs of the lookup share. No other crate can name it.
+mod Chains
+mod Walks
+mod Ids
+mod Writers
+mod Rooms
+mod Checking

@@ -1,25 +1,25 @@
 -- The check's loops: the tests of a row, the room that a chain leaves, and the chains one after the other.
 use mathlib.Core.List.{List, []}
 use mathlib.Core.Bool.{Bool, true, false, not}
-use mathlib.Core.Path.{_≡_, refl, sym, ap, _∙_}
+use mathlib.Core.Path.{_≡_, sym, ap, _∙_}
 use Prim.Native.Nat.{ℕ, suc, _+_, _-_, _≤_, _<_}
 use native.Mathlib.Nat.{zero-add}
 use native.Mathlib.Numerals.{add-one}
 use native.Mathlib.Omega.{arith}
 use lib.Dec.{eqb}
 use lib.ListN.{length}
-use borrow.Author.Tests.{eq-eqb, eqb-true, eqb-false}
+use borrow.Author.Count.{below-more}
 use Rattle.table.specs.Kind as kind
 use Rattle.table.specs.Regions.{Sized, clientWord, bucketWord}
 use Rattle.rules.specs.Spread.{bucket}
-use Rattle.lookup.specs.Book.{idOf, nextOf, from, rowsOf, OwnIds, Ends}
 use Rattle.rules.specs.Tells.{Tells}
-use Rattle.rules.proofs.Tells.{tells-no, refuted, told}
-use Rattle.lookup.specs.Check.{chainsOf, Fits, Fitting, Left, Good, Counted}
-use Rattle.lookup.specs.Laws.Chains.{ends-by, step-back}
-use Rattle.lookup.specs.Laws.Buckets.{rows-more, rows-fewer}
-use Rattle.lookup.specs.View.{Checked, checked}
+use Rattle.rules.proofs.Tells.{tells-no, tells-equal, refuted, told}
+use Rattle.lookup.specs.Promise.{Checked}
+use Rattle.lookup.specs.Inside.Reading.{nextOf, from, Ends, OwnIds, Fits, Fitting, Left}
+use Rattle.lookup.specs.Inside.Buckets.{rowsOf, rows-more, rows-fewer}
+use Rattle.lookup.proofs.Chains.{ends-by, step-back}
 use Rattle.lookup.proofs.Walks.{at-none, step}
+use Rattle.lookup.proofs.Checking.{chains, Good, Counted, checked}
 
 -- fits
 
@@ -29,14 +29,11 @@ module _ {q : ℕ} {t : List ℕ} {b r : ℕ} where
 
   module _ {n : ℕ} (is : n ≡ clientWord t q r kind.count) where
     pub fits-idle : n ≡ 0 → Tells false (Fits q t b r)
-    fits-idle e = tells-no (λ f. f .waits (sym is ∙ e))
+    fits-idle e = tells-no (λ f. f .counts (sym is ∙ e))
 
     pub fits-home : {x c : ℕ} → r < q → (n ≡ 0 → ⊥) → x ≡ clientWord t q r kind.id → c ≡ bucket q x → Tells (eqb c b) (Fits q t b r)
     fits-home {c = c} h m ex ec =
-        record {
-          right = λ e. record { low = h; waits = λ z. m (is ∙ z); home = ap (bucket q) (sym ex) ∙ sym ec ∙ eqb-true c b e };
-          passes = λ f. eq-eqb c b (ec ∙ ap (bucket q) ex ∙ f .home);
-        }
+        tells-equal c b (λ e. record { low = h; counts = λ z. m (is ∙ z); home = ap (bucket q) (sym ex) ∙ sym ec ∙ e }, λ f. ec ∙ ap (bucket q) ex ∙ f .home)
 
   pub fits-low : {ok : Bool} → Tells ok (Fits q t b r) → not ok ≡ false → r < q
   fits-low f e = told f e .low
@@ -49,8 +46,16 @@ pub record Rooms (q : ℕ) (t : List ℕ) (b first room at left : ℕ) : Type 0 
 pub rooms-first : {q : ℕ} {t : List ℕ} {b first room : ℕ} → Rooms q t b first room first room
 rooms-first = record { so = λ r l. l }
 
-pub left-ends : {q : ℕ} {t : List ℕ} {b h n r : ℕ} → Left q t b h n r → (r ≡ 0 → ⊥) → Ends q (nextOf q t) h
-left-ends w l = w .went (omega arith) .0 .ends
+-- a chain that leaves room ends, and has as many rows as the room is less
+module _ {q : ℕ} {t : List ℕ} {b h n r : ℕ} (w : Left q t b h n r) (l : r ≡ 0 → ⊥) where
+  pub left-ends : Ends q (nextOf q t) h
+  left-ends = w .went (omega arith) .0 .ends
+
+  pub left-less : r ≤ n
+  left-less = omega (arith, w .went (omega arith) .1)
+
+  pub left-rows : length (from q t h) ≡ n - r
+  left-rows = omega (arith, w .went (omega arith) .1)
 
 -- no row more
 left-none : {q : ℕ} {t : List ℕ} {at : ℕ} (b left : ℕ) → Sized q t → at ≡ kind.none → Left q t b at left left
@@ -100,14 +105,7 @@ module _ {q : ℕ} {t : List ℕ} {b first room at left : ℕ} (m : Rooms q t b 
 pub record Checks (q : ℕ) (t : List ℕ) (n b room : ℕ) : Type 0 where
   pub low : b ≤ q
   pub good : (j : ℕ) → j < b → Good q t j
-  pub many : length (rowsOf b (chainsOf q t)) + room ≡ n + 1
-
-and-last : (F : ℕ → Type 0) (b : ℕ) → ((j : ℕ) → j < b → F j) → F b → (j : ℕ) → j < b + 1 → F j
-and-last F b f last j h = go (eqb j b) refl
-  where
-    go : (d : Bool) → eqb j b ≡ d → F j
-    go true e = rw (eqb-true j b e) last
-    go false e = let n = eqb-false j b e in f j (omega arith)
+  pub many : length (rowsOf b (chains q t)) + room ≡ n + 1
 
 pub checks-first : {q : ℕ} {t : List ℕ} {n : ℕ} → Checks q t n 0 (n + 1)
 checks-first {n = n} = record { low = omega arith; good = λ j h. absurd (omega arith); many = zero-add (n + 1) }
@@ -116,21 +114,21 @@ module _ {q : ℕ} {t : List ℕ} {n b room : ℕ} (z : Sized q t) (m : Checks q
   pub checks-end : q ≤ b → Checked q t n (eqb room 1)
   checks-end h =
       let e : b ≡ q = omega (arith, m .low) in
-      let many : length (rowsOf q (chainsOf q t)) + room ≡ n + 1 = rw e at (m .many) in
-      checked z (record { right = λ o. record { good = λ j l. m .good j (omega arith); many = omega (arith, many, eqb-true room 1 o) }; passes = λ k. eq-eqb room 1 (omega (arith, many, k .many)) })
+      let many : length (rowsOf q (chains q t)) + room ≡ n + 1 = rw e at (m .many) in
+      checked z (tells-equal room 1 (λ o. record { good = λ j l. m .good j (omega arith); many = omega (arith, many) }, λ k. omega (arith, many, k .many)))
 
   module _ (h : b < q) {first left : ℕ} (is : first ≡ bucketWord t q b) (w : Left q t b first room left) where
     -- the chain has room where all together have
-    has-room : Counted q t n → length (chainsOf q t b) < room
+    has-room : Counted q t n → length (chains q t b) < room
     has-room k =
         let e : suc b + (q - suc b) ≡ q = omega arith in
-        let most : length (rowsOf (suc b) (chainsOf q t)) ≤ length (rowsOf q (chainsOf q t)) = rw e at (rows-fewer (q - suc b) (suc b) (chainsOf q t)) in
-        omega (arith, most, rows-more b (chainsOf q t), k .many, m .many)
+        let most : length (rowsOf (suc b) (chains q t)) ≤ length (rowsOf q (chains q t)) = rw e at (rows-fewer (q - suc b) (suc b) (chains q t)) in
+        omega (arith, most, rows-more b (chains q t), k .many, m .many)
 
     pub checks-wrong : left ≡ 0 → Checked q t n false
     checks-wrong e = checked z (tells-no (λ k. omega (arith, has-room k, (rw is at w) .goes (k .good b h .fitting) (has-room k))))
 
-    module _ {ok : Bool} (f : Tells ok (OwnIds (idOf q t) (from q t first))) where
+    module _ {ok : Bool} (f : Tells ok (OwnIds q t first)) where
       pub checks-ids : not ok ≡ true → Checked q t n false
       checks-ids e = checked z (tells-no (λ k. refuted f e (rw is (k .good b h .ids))))
 
@@ -139,6 +137,6 @@ module _ {q : ℕ} {t : List ℕ} {n b room : ℕ} (z : Sized q t) (m : Checks q
           let g = (rw is at w) .went (omega arith) in
           record {
             low = omega arith;
-            good = and-last (Good q t) b (m .good) (record { fitting = g .0; ids = rw is at (told f e) });
-            many = rw (add-one b) (omega (arith, g .1, rows-more b (chainsOf q t), m .many));
+            good = below-more (Good q t) b (m .good) (record { fitting = g .0; ids = rw is at (told f e) });
+            many = rw (add-one b) (omega (arith, g .1, rows-more b (chains q t), m .many));
           }

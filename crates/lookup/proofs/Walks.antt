@@ -1,24 +1,23 @@
 -- The loops that walk a chain that ends: what they keep, and their turns. `to` is the word that was read as the next in bucket of the row `at`.
-use mathlib.Core.List.{List, [], _∷_}
-use mathlib.Core.Path.{_≡_, refl, sym, subst}
-use mathlib.Core.Bool.{true, false}
+use mathlib.Core.List.{List, []}
+use mathlib.Core.Path.{_≡_, refl, sym, ap, _∙_, subst}
 use mathlib.Core.Logic.{⊎-elim, inl, inr}
 use Prim.Native.Nat.{ℕ, _<_}
 use native.Mathlib.Omega.{arith}
 use lib.ListN.{length}
 use borrow.Author.Tests.{eq-eqb, ne-eqb}
 use Rattle.table.specs.Kind as kind
-use Rattle.table.specs.Regions.{Sized, clientWord}
-use Rattle.rules.specs.Rows.{In, Distinct}
+use Rattle.table.specs.Regions.{Sized, clientWord, bucketWord}
+use Rattle.rules.specs.Rows.{In}
 use Rattle.rules.specs.Linked.{Link}
+use Rattle.rules.specs.Spread.{bucket}
 use Rattle.rules.specs.Draw.{before}
-use Rattle.rules.proofs.Rows.{other}
-use Rattle.rules.proofs.Columns.{chain-once, followed}
-use Rattle.lookup.specs.Book.{idOf, nextOf, from, OwnIds, Ends, Reaches, Found}
-use Rattle.rules.specs.Tells.{Tells}
-use Rattle.lookup.specs.Laws.Chains.{Step, step-on}
-use Rattle.rules.proofs.Tells.{tells-no}
-use Rattle.lookup.specs.Laws.Filing.{own-more, found-none, found-here, found-later}
+use Rattle.rules.proofs.Columns.{followed}
+use Rattle.lookup.specs.declared.Key.the-variants.{Own}
+use Rattle.lookup.specs.Promise.{Kept, Found, Seeks, opened, home-so}
+use Rattle.lookup.specs.Inside.Reading.{idOf, nextOf, from, Ends, Reaches}
+use Rattle.lookup.specs.Inside.Filing.{chain-is}
+use Rattle.lookup.proofs.Chains.{Step, step-on, filed-ends}
 
 pub at-none : {q : ℕ} {t : List ℕ} {at : ℕ} → Sized q t → at ≡ kind.none → from q t at ≡ []
 at-none {q} {t} {at} z e = followed q (omega (arith, z .small)) (nextOf q t) at [] tt e
@@ -37,28 +36,34 @@ module _ {q : ℕ} {t : List ℕ} {at : ℕ} (z : Sized q t) (e : Ends q (nextOf
   row-ends next = rw next (step .on)
 
 -- seek: what is found from `at` on is found from the first on
-pub record Seeks (q : ℕ) (t : List ℕ) (first x at : ℕ) : Type 0 where
+pub record Seeking (q : ℕ) (t : List ℕ) (first x at : ℕ) : Type 0 where
   pub ends : Ends q (nextOf q t) at
   pub so : (r : ℕ) → Found (idOf q t) (from q t at) x r → Found (idOf q t) (from q t first) x r
 
-pub seeks-first : {q : ℕ} {t : List ℕ} {first x : ℕ} → Ends q (nextOf q t) first → Seeks q t first x first
-seeks-first e = record { ends = e; so = λ r f. f }
+pub seeking-first : {q : ℕ} {t : List ℕ} {first x : ℕ} → Ends q (nextOf q t) first → Seeking q t first x first
+seeking-first e = record { ends = e; so = λ r f. f }
 
-module _ {q : ℕ} {t : List ℕ} {first x at : ℕ} (z : Sized q t) (s : Seeks q t first x at) where
-  pub seeks-none : at ≡ kind.none → Found (idOf q t) (from q t first) x kind.none
-  seeks-none e = s .so kind.none (rw (at-none z e) (found-none (idOf q t) x))
+module _ {q : ℕ} {t : List ℕ} {first x at : ℕ} (z : Sized q t) (s : Seeking q t first x at) where
+  pub seeking-none : at ≡ kind.none → Found (idOf q t) (from q t first) x kind.none
+  seeking-none e = s .so kind.none (rw (at-none z e) (record { row = λ n. absurd (n refl); absent = λ e s i. absurd i }))
 
   module _ (n : at ≡ kind.none → ⊥) {v : ℕ} (is : v ≡ clientWord t q at kind.id) where
-    pub seeks-here : v ≡ x → Found (idOf q t) (from q t first) x at
-    seeks-here e = s .so at (rw (step z (s .ends) n .is) (found-here (idOf q t) x at (from q t (nextOf q t at)) n (rw (← is) e)))
+    pub seeking-here : v ≡ x → Found (idOf q t) (from q t first) x at
+    seeking-here e = s .so at (rw (step z (s .ends) n .is) (record { row = λ m. (inl refl, sym is ∙ e); absent = λ k. absurd (n k) }))
 
-    pub seeks-next : (v ≡ x → ⊥) → {to : ℕ} → to ≡ clientWord t q at kind.nextInBucket → Seeks q t first x to
-    seeks-next m next =
+    pub seeking-next : (v ≡ x → ⊥) → {to : ℕ} → to ≡ clientWord t q at kind.nextInBucket → Seeking q t first x to
+    seeking-next m next =
         let w = step z (s .ends) n in
         rw next
         (record {
           ends = w .on;
-          so = λ r f. s .so r (rw (w .is) (found-later (idOf q t) x at (from q t (nextOf q t at)) (λ e. m (rw is e)) f));
+          so = λ r f.
+              s .so r
+              (rw (w .is)
+              (record {
+                row = λ k. (inr (f .row k .0), f .row k .1);
+                absent = λ k y i e. ⊎-elim (λ a. m (is ∙ ap (idOf q t) (sym a) ∙ e)) (λ j. f .absent k y j e) i;
+              }));
         })
 
 -- behind: r is still to come from `at` on, after `last`
@@ -93,38 +98,25 @@ module _ {q : ℕ} {t : List ℕ} {first r : ℕ} (z : Sized q t) where
           so = rw (w .is, ne-eqb at r n) at (m .so);
         })
 
--- own_ids: the rows from `at` on have ids of their own exactly where those from the first on have
-pub record Owns (q : ℕ) (t : List ℕ) (first at : ℕ) : Type 0 where
-  pub ends : Ends q (nextOf q t) at
-  pub all : OwnIds (idOf q t) (from q t at) → OwnIds (idOf q t) (from q t first)
-  pub part : OwnIds (idOf q t) (from q t first) → OwnIds (idOf q t) (from q t at)
+-- find and leave: h is the word that was read as the first row of bucket b, which is that of the id x
+module _ {q : ℕ} {t : List ℕ} {b h : ℕ} (z : Sized q t) (hb : b < q) (first : h ≡ bucketWord t q b) where
+  pub first-ends : Kept q t → Ends q (nextOf q t) h
+  first-ends K = rw first (filed-ends (opened Own (K .keeps)) (omega (arith, z .small)) b hb)
 
-pub owns-first : {q : ℕ} {t : List ℕ} {first : ℕ} → Ends q (nextOf q t) first → Owns q t first first
-owns-first e = record { ends = e; all = λ u. u; part = λ u. u }
+  pub first-reaches : {x r : ℕ} → ((K : Kept q t) × In r (K .clients)) → x ≡ clientWord t q r kind.id → b ≡ bucket q x → Reaches q (nextOf q t) h r
+  first-reaches {x} {r} K id home =
+      let F = opened Own (K .0 .keeps) in
+      record { ends = first-ends (K .0); there = rw (first, chain-is F (omega (arith, z .small)) b hb, home, id) (F .stands r (K .1)) }
 
-module _ {q : ℕ} {t : List ℕ} {first at : ℕ} (z : Sized q t) (w : Owns q t first at) where
-  pub owns-none : at ≡ kind.none → Tells true (OwnIds (idOf q t) (from q t first))
-  owns-none e = record { right = λ o. w .all (rw (at-none z e) (λ r s i. absurd i)); passes = λ u. refl }
-
-  module _ (n : at ≡ kind.none → ⊥) {v to y : ℕ} (is : v ≡ clientWord t q at kind.id) (next : to ≡ clientWord t q at kind.nextInBucket) (f : Found (idOf q t) (from q t to) v y) where
-    found : Found (idOf q t) (from q t (nextOf q t at)) (idOf q t at) y
-    found = rw (is, next) at f
-
-    pub owns-next : y ≡ kind.none → Owns q t first to
-    owns-next e =
-        let s = step z (w .ends) n in
-        rw next
-        (record {
-          ends = s .on;
-          all = λ u. w .all (rw (s .is) (own-more (idOf q t) at (from q t (nextOf q t at)) (found .absent e) u));
-          part = λ u a b i j k. let p : OwnIds (idOf q t) (at ∷ from q t (nextOf q t at)) = rw (s .is) at (w .part u) in p a b (inr i) (inr j) k;
-        })
-
-    pub owns-not : (y ≡ kind.none → ⊥) → Tells false (OwnIds (idOf q t) (from q t first))
-    owns-not m =
-        let s = step z (w .ends) n in
-        let d : Distinct (at ∷ from q t (nextOf q t at)) = rw (s .is) at (chain-once q (omega (arith, z .small)) (nextOf q t) at (from q t at) (w .ends .below) (w .ends .chain)) in
-        tells-no
-        (λ u.
-        let p : OwnIds (idOf q t) (at ∷ from q t (nextOf q t at)) = rw (s .is) at (w .part u) in
-        other at y (from q t (nextOf q t at)) (d .0) (found .row m .0) (p at y (inl refl) (inr (found .row m .0)) (sym (found .row m .1))))
+  pub first-found : {x r : ℕ} → b ≡ bucket q x → Found (idOf q t) (from q t h) x r → Seeks q t x (record { row = r; bucket = b })
+  first-found {x} {r} home f =
+      record {
+        found = λ cs C k.
+            let F = opened Own k in
+            let g : Found (idOf q t) (C b) x r = rw (first, chain-is F (omega (arith, z .small)) b hb) at f in
+            record {
+              row = λ n. (F .only b r hb (g .row n .0) .0, g .row n .1);
+              absent = λ e s i same. g .absent e s (rw (home, ← same) (F .stands s i)) same;
+            };
+        home = home-so Own home;
+      }

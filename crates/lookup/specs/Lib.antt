@@ -1,5 +1,4 @@
--- The lookup by id: its definitions, what its check finds, their laws, and the promise to the layers above.
-pub mod Book
-pub mod Check
-pub mod Laws
-pub mod View
+-- The lookup by id. The layers above name `Promise` alone. What the code's contracts and proofs cite besides stands in `Inside`, where nothing opens or builds what the promise keeps shut.
+pub mod Promise
+pub mod Inside
+mod Held

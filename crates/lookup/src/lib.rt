@@ -1,19 +1,30 @@
 // The lookup of clients by id: for each bucket a chain of client rows.
 // Its functions rest on the table's size and on the spread table, which is lent down; find and leave also on a table that keeps its clients.
 ghost use mathlib.Core.Path.{_≡_};
-ghost use mathlib.Core.List.{List};
-ghost use Prim.Native.Nat.{ℕ, _<_};
+ghost use Prim.Native.Nat.{_<_, _≤_};
+ghost use lib.ListN.{length, take};
 ghost use Rattle.table.specs.Kind as kind;
-ghost use Rattle.table.specs.Regions.{Sized, Writes};
-ghost use Rattle.rules.specs.Rows.{In};
+ghost use Rattle.table.specs.Regions.{Sized, Writes, clientWord};
+ghost use Rattle.rules.specs.Rows.{In, NotIn};
 ghost use Rattle.rules.specs.Linked.{Link};
 ghost use Rattle.rules.specs.Spread.{IsSpread};
 ghost use Rattle.rules.specs.Draw.{before};
-ghost use Rattle.lookup.specs.Book.{idOf, nextOf, from, OwnIds, Ends, Reaches, Found, enterRow, hook, leaveAt, leaveRow};
 ghost use Rattle.rules.specs.Tells.{Tells};
-ghost use Rattle.lookup.specs.Check.{Fits, Left};
-ghost use Rattle.lookup.specs.View.{Keeps, Kept, Checked};
+ghost use Rattle.lookup.specs.Promise.{Kept, Found, Home, Seeks, Enters, Leaves, Checked};
+ghost use Rattle.lookup.specs.Inside.Filed.{hook, leaveAt};
+ghost use Rattle.lookup.specs.Inside.Reading.{idOf, nextOf, from, Ends, Reaches, OwnIds, Fits, Left};
 use table::LinkedTable;
+
+// Where an id was sought: its client's row, or none; and its bucket, which only the lookup reads.
+pub struct Sought {
+    pub row: u32,
+    bucket: usize,
+}
+
+// The key to what the promise keeps shut (specs/Promise). Only this crate's proofs can name it, and no code makes one.
+enum Key {
+    Own,
+}
 
 // The row with that id on a chain that ends, or none.
 fn seek(t: &[u32], q: usize, first: u32, id: u32) -> u32
@@ -32,26 +43,27 @@ fn seek(t: &[u32], q: usize, first: u32, id: u32) -> u32
 }
 
 // The client of that id, or none.
-pub fn find(t: &[u32], q: usize, s: &[u32; 1024], id: u32) -> u32
+pub fn find(t: &[u32], q: usize, s: &[u32; 1024], id: u32) -> Sought
     requires { ⌜ Sized q (now t) ⌝ }
     requires { ⌜ (0 < q) × IsSpread (now s) ⌝ }
     requires { ⌜ Kept q (now t) ⌝ }
-    ensures { λ r. ⌜ ((cs : List ℕ) (C : ℕ → List ℕ) → Keeps q (now (t .entry)) cs C → Found (idOf q (now (t .entry))) cs id r) ⌝ }
+    ensures { λ at. ⌜ Seeks q (now (t .entry)) id at ⌝ }
 {
-    let b = spread::bucket_in(s, id, q);
-    let first = table::bucket(t, q, b);
-    seek(t, q, first, id)
+    let bucket = spread::bucket_in(s, id, q);
+    let first = table::bucket(t, q, bucket);
+    let row = seek(t, q, first, id);
+    Sought { row, bucket }
 }
 
-// The row, a new client's, goes to the front of its id's bucket.
-pub fn enter(t: &mut [u32], q: usize, s: &[u32; 1024], r: u32)
+// The row, a new client's, goes to the front of the bucket where its id was sought.
+pub fn enter(t: &mut [u32], q: usize, at: Sought, r: u32)
     requires { ⌜ Sized q (now t) ⌝ }
-    requires { ⌜ (r < q) × IsSpread (now s) ⌝ }
-    ensures { λ _. ⌜ Writes q (now (t .entry)) (now (t .exit)) (enterRow q r) 2 ⌝ }
+    requires { ⌜ r < q ⌝ }
+    requires { ⌜ Home q (clientWord (now t) q r kind.id) at ⌝ }
+    ensures { λ _. ⌜ Enters q (now (t .entry)) (now (t .exit)) r ⌝ }
     ensures { λ _. ⌜ Sized q (now (t .exit)) ⌝ }
 {
-    let id = table::client(t, q, r, LinkedTable::ID);
-    let b = spread::bucket_in(s, id, q);
+    let b = at.bucket;
     let first = table::bucket(t, q, b);
     table::set_client(t, q, r, LinkedTable::NEXT_IN_BUCKET, first);
     table::set_bucket(t, q, b, r);
@@ -78,7 +90,7 @@ fn set_hook(t: &mut [u32], q: usize, b: usize, e: u32, v: u32)
     requires { ⌜ Sized q (now t) ⌝ }
     requires { ⌜ b < q ⌝ }
     requires { ⌜ Link q e ⌝ }
-    ensures { λ _. ⌜ Writes q (now (t .entry)) (now (t .exit)) (hook b e v) 1 ⌝ }
+    ensures { λ _. ⌜ Writes q (now (t .entry)) (now (t .exit)) (hook b e v) ⌝ }
     ensures { λ _. ⌜ Sized q (now (t .exit)) ⌝ }
 {
     if e == LinkedTable::NONE {
@@ -93,7 +105,7 @@ fn unhook(t: &mut [u32], q: usize, b: usize, e: u32, r: u32)
     requires { ⌜ Sized q (now t) ⌝ }
     requires { ⌜ (b < q) × (r < q) ⌝ }
     requires { ⌜ Link q e ⌝ }
-    ensures { λ _. ⌜ Writes q (now (t .entry)) (now (t .exit)) (leaveAt b e r) 2 ⌝ }
+    ensures { λ _. ⌜ Writes q (now (t .entry)) (now (t .exit)) (leaveAt b e r) ⌝ }
     ensures { λ _. ⌜ Sized q (now (t .exit)) ⌝ }
 {
     let n = table::client(t, q, r, LinkedTable::NEXT_IN_BUCKET);
@@ -106,7 +118,7 @@ pub fn leave(t: &mut [u32], q: usize, s: &[u32; 1024], r: u32)
     requires { ⌜ Sized q (now t) ⌝ }
     requires { ⌜ (r < q) × IsSpread (now s) ⌝ }
     requires { ⌜ ((K : Kept q (now t)) × In r (K .clients)) ⌝ }
-    ensures { λ _. ⌜ Writes q (now (t .entry)) (now (t .exit)) (leaveRow q r) 2 ⌝ }
+    ensures { λ _. ⌜ Leaves q (now (t .entry)) (now (t .exit)) r ⌝ }
     ensures { λ _. ⌜ Sized q (now (t .exit)) ⌝ }
 {
     let id = table::client(t, q, r, LinkedTable::ID);
@@ -125,7 +137,7 @@ fn fits(t: &[u32], q: usize, s: &[u32; 1024], b: usize, r: u32) -> bool
     if r as usize >= q {
         return false;
     }
-    if table::client(t, q, r, LinkedTable::WAITING) == 0 {
+    if table::client(t, q, r, LinkedTable::COUNT) == 0 {
         return false;
     }
     let id = table::client(t, q, r, LinkedTable::ID);
@@ -153,11 +165,11 @@ fn room_after(t: &[u32], q: usize, s: &[u32; 1024], b: usize, first: u32, room: 
     left
 }
 
-// Whether each row of a chain that ends has an id of its own: no row after it has it.
-fn own_ids(t: &[u32], q: usize, first: u32) -> bool
+// Whether each row of a short chain that ends has an id of its own: no row after it has that.
+fn short_own_ids(t: &[u32], q: usize, first: u32) -> bool
     requires { ⌜ Sized q (now t) ⌝ }
     requires { ⌜ Ends q (nextOf q (now t)) first ⌝ }
-    ensures { λ ok. ⌜ Tells ok (OwnIds (idOf q (now (t .entry))) (from q (now (t .entry)) first)) ⌝ }
+    ensures { λ ok. ⌜ Tells ok (OwnIds q (now (t .entry)) first) ⌝ }
 {
     let mut at = first;
     while at != LinkedTable::NONE {
@@ -168,6 +180,60 @@ fn own_ids(t: &[u32], q: usize, first: u32) -> bool
         }
     }
     true
+}
+
+// Whether none of the first n numbers is x. (No early exit: the loop is turned into vector code.)
+fn nowhere(a: &[u32; LinkedTable::LARGEST], n: usize, x: u32) -> bool
+    requires { ⌜ (n ≤ kind.largest) × (length (now a) ≡ kind.largest) ⌝ }
+    ensures { λ ok. ⌜ Tells ok (NotIn x (take n (now (a .entry)))) ⌝ }
+{
+    let mut hits: u32 = 0;
+    let mut i: usize = 0;
+    while i < n {
+        hits += if a[i] == x { 1 } else { 0 };
+        i += 1;
+    }
+    hits == 0
+}
+
+// Whether each row of a long chain that ends has an id of its own: the ids are copied side by side, and each is compared with those before it.
+fn long_own_ids(t: &[u32], q: usize, first: u32) -> bool
+    requires { ⌜ Sized q (now t) ⌝ }
+    requires { ⌜ Ends q (nextOf q (now t)) first ⌝ }
+    ensures { λ ok. ⌜ Tells ok (OwnIds q (now (t .entry)) first) ⌝ }
+{
+    let mut ids = [0u32; LinkedTable::LARGEST];
+    let mut n: usize = 0;
+    let mut at = first;
+    while at != LinkedTable::NONE {
+        let x = table::client(t, q, at, LinkedTable::ID);
+        if !nowhere(&ids, n, x) {
+            return false;
+        }
+        ids[n] = x;
+        n += 1;
+        at = table::client(t, q, at, LinkedTable::NEXT_IN_BUCKET);
+    }
+    true
+}
+
+// The ids of at most so many rows are compared through the links: to copy them would cost more.
+const SHORT: usize = 8;
+
+// Whether each of the n rows of a chain that ends has an id of its own. One alone has.
+fn own_ids(t: &[u32], q: usize, first: u32, n: usize) -> bool
+    requires { ⌜ Sized q (now t) ⌝ }
+    requires { ⌜ Ends q (nextOf q (now t)) first ⌝ }
+    requires { ⌜ length (from q (now t) first) ≡ n ⌝ }
+    ensures { λ ok. ⌜ Tells ok (OwnIds q (now (t .entry)) first) ⌝ }
+{
+    if n <= 1 {
+        return true;
+    }
+    if n <= SHORT {
+        return short_own_ids(t, q, first);
+    }
+    long_own_ids(t, q, first)
 }
 
 // The lookup's part of the soundness check, for n clients: every chain is right, and together they hold n rows.
@@ -181,13 +247,14 @@ pub fn check_lookup(t: &[u32], q: usize, s: &[u32; 1024], n: u32) -> bool
     let mut b: usize = 0;
     while b < q {
         let first = table::bucket(t, q, b);
-        room = room_after(t, q, s, b, first, room);
-        if room == 0 {
+        let left = room_after(t, q, s, b, first, room);
+        if left == 0 {
             return false;
         }
-        if !own_ids(t, q, first) {
+        if !own_ids(t, q, first, room - left) {
             return false;
         }
+        room = left;
         b += 1;
     }
     room == 1

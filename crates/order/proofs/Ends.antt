@@ -2,13 +2,13 @@
 use mathlib.Core.List.{List, [], _∷_, _++_, append-assoc, append-nil}
 use mathlib.Core.Bool.{false, cond}
 use mathlib.Core.Path.{_≡_, refl, sym, _∙_}
-use mathlib.Core.Logic.{inl}
 use Prim.Native.Nat.{ℕ, _≤_}
 use native.Mathlib.Omega.{arith}
 use lib.Dec.{eqb}
 use borrow.Author.Tests.{eq-eqb, ne-eqb}
 use Rattle.table.specs.Kind as kind
 use Rattle.table.specs.Regions.{Regions}
+use Rattle.table.specs.Owners.{orderWords}
 use Rattle.rules.specs.Rows.{headOr, lastOr, In, NotIn, Distinct, Below}
 use Rattle.rules.specs.Linked.{Links, Linked, order}
 use Rattle.rules.proofs.Rows.{other, notin-right, distinct-right, in-below, last-in}
@@ -46,11 +46,12 @@ module _ (r : ℕ) where
   last-but back less L (y ∷ M) d h =
       rw (last-append kind.none L r (y ∷ M), last-other y M (distinct-right L (r ∷ y ∷ M) d .0), ← append-assoc less L (y ∷ M), last-append kind.none (less ++ L) y M)
 
--- the first of some rows, and the row before it
-pub first-in : (r : ℕ) (ys : List ℕ) → In r ys → In (headOr kind.none ys) ys
-first-in r [] i = absurd i
-first-in r (y ∷ ys) i = inl refl
+-- the last of some rows is among them
+pub last-there : (r : ℕ) (ys : List ℕ) → In r ys → In (lastOr kind.none ys) ys
+last-there r [] i = absurd i
+last-there r (y ∷ ys) i = last-in y ys
 
+-- the row before the first of them
 pub head-back : {q : ℕ} (L : Links) (r : ℕ) (xs ys : List ℕ) → Linked q L (xs ++ ys) → In r ys → L .back (headOr kind.none ys) ≡ lastOr kind.none xs
 head-back L r xs [] k i = absurd i
 head-back L r xs (y ∷ ys) k i = around y xs ys k .0
@@ -60,8 +61,8 @@ module _ (q : ℕ) (hq : q ≤ kind.largest) where
   last-row x xs b = ne-eqb (lastOr x xs) kind.none (λ e. omega (arith, in-below q (x ∷ xs) b (lastOr x xs) (last-in x xs)))
 
   -- the row after the last of xs, or the first
-  pub after-last : (R : Regions) (e : ℕ) (xs ys : List ℕ) → Linked q (order R) (xs ++ ys) → e ≡ lastOr kind.none xs → after e R ≡ headOr kind.none ys
-  after-last R e xs ys k h = rw h (meet q hq (order R) xs ys k .0)
+  pub after-last : (R : Regions) (e : ℕ) (xs ys : List ℕ) → Linked q (order (orderWords R)) (xs ++ ys) → e ≡ lastOr kind.none xs → after e R ≡ headOr kind.none ys
+  after-last R e xs ys k h = rw h (meet q hq (order (orderWords R)) xs ys k .0)
 
   -- the heavier end of a group that r enters
   pub or-last : (r : ℕ) (xs : List ℕ) → Below q xs → orElse (lastOr kind.none xs) r ≡ lastOr r xs

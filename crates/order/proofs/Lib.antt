@@ -4,9 +4,11 @@ pub mod Sorted
 pub mod Ends
 pub mod Grouped
 pub mod Bridge
-pub mod Frames
 pub mod Moved
 pub mod Coming
-pub mod Kept
-pub mod Calls
+pub mod Going
+pub mod Writes
+pub mod Moving
+pub mod Counts
+pub mod Together
 pub mod Few

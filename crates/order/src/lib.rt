@@ -1,73 +1,40 @@
 // The order of clients (HL-HITTERS, algorithms 2, 3 and 4): a list from lightest to heaviest, and the two ends of each group of equal counts.
 // The functions rest on a sound table: its size (`Sized`), an order that is right (`Listed`, `Vacant`), and to dismiss also a lookup that is (`Kept`).
 ghost use mathlib.Core.Path.{_≡_};
-ghost use Prim.Native.Nat.{_<_, _≤_};
+ghost use Prim.Native.Nat.{_+_, _<_, _≤_};
 ghost use lib.ListN.{getD};
 ghost use Rattle.table.specs.Kind as kind;
-ghost use Rattle.table.specs.Regions.{Sized, Writes};
+ghost use Rattle.table.specs.Regions.{Sized, Writes, clientWord, countWord};
 ghost use Rattle.rules.specs.Rows.{In};
 ghost use Rattle.rules.specs.Linked.{Link};
 ghost use Rattle.rules.specs.Spread.{IsSpread};
-ghost use Rattle.lookup.specs.View.{Kept};
-ghost use Rattle.order.specs.Moves.{endWithout, orElse, leaveGroup, enterGroup, takeOut, after as afterIn, putIn, raiseAfter, raised, lowerAfter, lowered, takeRow, oneMore, oneLess, admitted, clearRow, freeRow, dismissed};
-ghost use Rattle.order.specs.Asks.{Finds, Drawn, Standing, Listed, Vacant, Enters, Leaves};
+ghost use Rattle.lookup.specs.Promise.{Home, Kept};
+ghost use Rattle.order.specs.Moves.{orElse, leaveGroup, enterGroup, takeOut, putIn, moveAfter, moveBefore, raised, lowered, takeRow, oneMore, oneLess, clearRow, freeRow};
+ghost use Rattle.order.specs.Asks.{Drawn, Listed, Vacant, Strung, Admits, Dismisses};
+use lookup::Sought;
 use table::LinkedTable;
 
-// An end of the group of count row k once r has left it; `inside` is r's link away from that end.
-fn end_without(
-    t: &[u32],
-    q: usize,
-    r: u32,
-    k: usize,
-    end: usize,
-    other: usize,
-    inside: usize,
-) -> u32
-    requires { ⌜ Sized q (now t) ⌝ }
-    requires { ⌜ (r < q) × (inside < kind.clientWords) ⌝ }
-    requires { ⌜ (k < q) × (end < kind.countWords) × (other < kind.countWords) ⌝ }
-    ensures { λ x. ⌜ Finds q (now (t .entry)) (λ R. endWithout r (R .count k end) (R .count k other) (R .client r inside)) x ⌝ }
-{
-    let a = table::count_end(t, q, k, end);
-    let b = table::count_end(t, q, k, other);
-    if a == r {
-        if b == r {
-            LinkedTable::NONE
-        } else {
-            table::client(t, q, r, inside)
-        }
-    } else {
-        a
-    }
-}
-
-// r leaves the group of count row k.
+// r leaves the group of count row k: an end that it is becomes its neighbour inside, and none where nobody is left.
 fn leave_group(t: &mut [u32], q: usize, r: u32, k: usize)
     requires { ⌜ Sized q (now t) ⌝ }
     requires { ⌜ (r < q) × (k < q) ⌝ }
-    ensures { λ _. ⌜ Writes q (now (t .entry)) (now (t .exit)) (leaveGroup r k) 2 ⌝ }
+    ensures { λ _. ⌜ Writes q (now (t .entry)) (now (t .exit)) (leaveGroup r k) ⌝ }
     ensures { λ _. ⌜ Sized q (now (t .exit)) ⌝ }
 {
-    let a = end_without(
-        t,
-        q,
-        r,
-        k,
-        LinkedTable::LIGHT_END,
-        LinkedTable::HEAVY_END,
-        LinkedTable::HEAVIER,
-    );
-    let b = end_without(
-        t,
-        q,
-        r,
-        k,
-        LinkedTable::HEAVY_END,
-        LinkedTable::LIGHT_END,
-        LinkedTable::LIGHTER,
-    );
-    table::set_count_end(t, q, k, LinkedTable::LIGHT_END, a);
-    table::set_count_end(t, q, k, LinkedTable::HEAVY_END, b);
+    let a = table::count_end(t, q, k, LinkedTable::LIGHT_END);
+    let b = table::count_end(t, q, k, LinkedTable::HEAVY_END);
+    if a == r {
+        if b == r {
+            table::set_count_end(t, q, k, LinkedTable::LIGHT_END, LinkedTable::NONE);
+            table::set_count_end(t, q, k, LinkedTable::HEAVY_END, LinkedTable::NONE);
+        } else {
+            let l = table::client(t, q, r, LinkedTable::HEAVIER);
+            table::set_count_end(t, q, k, LinkedTable::LIGHT_END, l);
+        }
+    } else if b == r {
+        let e = table::client(t, q, r, LinkedTable::LIGHTER);
+        table::set_count_end(t, q, k, LinkedTable::HEAVY_END, e);
+    }
 }
 
 // x, or y where x is none.
@@ -81,7 +48,7 @@ fn or_else(x: u32, y: u32) -> u32
 fn enter_group(t: &mut [u32], q: usize, r: u32, k: usize)
     requires { ⌜ Sized q (now t) ⌝ }
     requires { ⌜ k < q ⌝ }
-    ensures { λ _. ⌜ Writes q (now (t .entry)) (now (t .exit)) (enterGroup r k) 2 ⌝ }
+    ensures { λ _. ⌜ Writes q (now (t .entry)) (now (t .exit)) (enterGroup r k) ⌝ }
     ensures { λ _. ⌜ Sized q (now (t .exit)) ⌝ }
 {
     let b = or_else(table::count_end(t, q, k, LinkedTable::HEAVY_END), r);
@@ -89,97 +56,74 @@ fn enter_group(t: &mut [u32], q: usize, r: u32, k: usize)
     table::set_count_end(t, q, k, LinkedTable::HEAVY_END, b);
 }
 
-// r leaves its group and the list.
-fn remove(t: &mut [u32], q: usize, r: u32)
+// r comes to stand after e in the list; where e is r, it stands there already.
+fn move_after(t: &mut [u32], q: usize, r: u32, e: u32)
     requires { ⌜ Sized q (now t) ⌝ }
-    requires { ⌜ Drawn q (now t) (Standing q r) ⌝ }
-    ensures { λ _. ⌜ Writes q (now (t .entry)) (now (t .exit)) (takeOut r) 4 ⌝ }
+    requires { ⌜ Drawn q (now t) (Strung q r e) ⌝ }
+    ensures { λ _. ⌜ Writes q (now (t .entry)) (now (t .exit)) (moveAfter r e) ⌝ }
     ensures { λ _. ⌜ Sized q (now (t .exit)) ⌝ }
 {
-    let c = table::client(t, q, r, LinkedTable::WAITING);
-    leave_group(t, q, r, (c - 1) as usize);
-    links::unlink_client(t, q, r);
-}
-
-// The row after e in the list; after none, the lightest.
-fn after(t: &[u32], q: usize, e: u32) -> u32
-    requires { ⌜ Sized q (now t) ⌝ }
-    requires { ⌜ Link q e ⌝ }
-    ensures { λ x. ⌜ Finds q (now (t .entry)) (afterIn e) x ⌝ }
-{
-    if e == LinkedTable::NONE {
-        table::header(t, q, LinkedTable::LIGHTEST_AT)
-    } else {
-        table::client(t, q, e, LinkedTable::HEAVIER)
+    if e != r {
+        links::unlink_client(t, q, r);
+        links::insert_client_after(t, q, r, e);
     }
 }
 
-// r comes to stand after e, or first where e is none, with the count n.
-fn put_in(t: &mut [u32], q: usize, r: u32, n: u32, e: u32)
+// r, which does not stand just before l, comes to stand there; where l is r, it stands right already.
+fn move_before(t: &mut [u32], q: usize, r: u32, l: u32)
     requires { ⌜ Sized q (now t) ⌝ }
-    requires { ⌜ (r < q) × (1 ≤ n) × (n ≤ q) ⌝ }
-    requires { ⌜ Link q e ⌝ }
-    requires { ⌜ Drawn q (now t) (λ R. Link q (afterIn e R)) ⌝ }
-    ensures { λ _. ⌜ Writes q (now (t .entry)) (now (t .exit)) (putIn r n e) 7 ⌝ }
+    requires { ⌜ Drawn q (now t) (Strung q r l) ⌝ }
+    requires { ⌜ (clientWord (now t) q l kind.lighter ≡ r → ⊥) ⌝ }
+    ensures { λ _. ⌜ Writes q (now (t .entry)) (now (t .exit)) (moveBefore r l) ⌝ }
     ensures { λ _. ⌜ Sized q (now (t .exit)) ⌝ }
 {
-    let l = after(t, q, e);
-    links::insert_client(t, q, r, e, l);
-    table::set_client(t, q, r, LinkedTable::WAITING, n);
-    enter_group(t, q, r, (n - 1) as usize);
-}
-
-// The row that r comes to stand after when it is raised: the heavier end of its group, r itself left out.
-fn raise_after(t: &[u32], q: usize, r: u32) -> u32
-    requires { ⌜ Sized q (now t) ⌝ }
-    requires { ⌜ Drawn q (now t) (Standing q r) ⌝ }
-    ensures { λ x. ⌜ Finds q (now (t .entry)) (raiseAfter r) x ⌝ }
-{
-    let c = table::client(t, q, r, LinkedTable::WAITING);
-    let b = table::count_end(t, q, (c - 1) as usize, LinkedTable::HEAVY_END);
-    if b == r {
-        table::client(t, q, r, LinkedTable::LIGHTER)
-    } else {
-        b
+    if l != r {
+        links::unlink_client(t, q, r);
+        links::insert_client_before(t, q, r, l);
     }
 }
 
-// The row that r comes to stand after when it is lowered: the one before the lighter end of the group below, or of its own.
-fn lower_after(t: &[u32], q: usize, r: u32) -> u32
+// The count n of the client in row r rises by one. The heavy end of a group stays where it stands in the list.
+pub fn raise(t: &mut [u32], q: usize, r: u32, n: u32)
     requires { ⌜ Sized q (now t) ⌝ }
-    requires { ⌜ Drawn q (now t) (Listed q r (λ n. 2 ≤ n)) ⌝ }
-    ensures { λ x. ⌜ Finds q (now (t .entry)) (lowerAfter r) x ⌝ }
-{
-    let c = table::client(t, q, r, LinkedTable::WAITING);
-    let below = table::count_end(t, q, (c - 2) as usize, LinkedTable::LIGHT_END);
-    let own = table::count_end(t, q, (c - 1) as usize, LinkedTable::LIGHT_END);
-    table::client(t, q, or_else(below, own), LinkedTable::LIGHTER)
-}
-
-// The count of the client in row r rises by one.
-pub fn raise(t: &mut [u32], q: usize, r: u32)
-    requires { ⌜ Sized q (now t) ⌝ }
-    requires { ⌜ Drawn q (now t) (Listed q r (λ n. n < q)) ⌝ }
-    ensures { λ _. ⌜ Writes q (now (t .entry)) (now (t .exit)) (raised r) 11 ⌝ }
+    requires { ⌜ Drawn q (now t) (Listed q r (λ m. m < q)) ⌝ }
+    requires { ⌜ n ≡ clientWord (now t) q r kind.count ⌝ }
+    ensures { λ _. ⌜ Writes q (now (t .entry)) (now (t .exit)) (raised r) ⌝ }
     ensures { λ _. ⌜ Sized q (now (t .exit)) ⌝ }
 {
-    let c = table::client(t, q, r, LinkedTable::WAITING);
-    let e = raise_after(t, q, r);
-    remove(t, q, r);
-    put_in(t, q, r, c + 1, e);
+    let k = (n - 1) as usize;
+    let e = table::count_end(t, q, k, LinkedTable::HEAVY_END);
+    leave_group(t, q, r, k);
+    move_after(t, q, r, e);
+    table::set_client(t, q, r, LinkedTable::COUNT, n + 1);
+    enter_group(t, q, r, k + 1);
 }
 
-// The count of the client in row r falls by one, and not to 0.
-pub fn lower(t: &mut [u32], q: usize, r: u32)
+// The light end of count row k, or of the next one where nobody is in that group.
+fn light_end(t: &[u32], q: usize, k: usize) -> u32
     requires { ⌜ Sized q (now t) ⌝ }
-    requires { ⌜ Drawn q (now t) (Listed q r (λ n. 2 ≤ n)) ⌝ }
-    ensures { λ _. ⌜ Writes q (now (t .entry)) (now (t .exit)) (lowered r) 11 ⌝ }
+    requires { ⌜ k + 1 < q ⌝ }
+    ensures { λ l. ⌜ l ≡ orElse (countWord (now (t .entry)) q k kind.lightEnd) (countWord (now (t .entry)) q (k + 1) kind.lightEnd) ⌝ }
+{
+    let below = table::count_end(t, q, k, LinkedTable::LIGHT_END);
+    let own = table::count_end(t, q, k + 1, LinkedTable::LIGHT_END);
+    or_else(below, own)
+}
+
+// The count n of the client in row r falls by one, and not to 0. The light end of a group stays where it stands if nobody is in the group below.
+pub fn lower(t: &mut [u32], q: usize, r: u32, n: u32)
+    requires { ⌜ Sized q (now t) ⌝ }
+    requires { ⌜ Drawn q (now t) (Listed q r (λ m. 2 ≤ m)) ⌝ }
+    requires { ⌜ n ≡ clientWord (now t) q r kind.count ⌝ }
+    ensures { λ _. ⌜ Writes q (now (t .entry)) (now (t .exit)) (lowered r) ⌝ }
     ensures { λ _. ⌜ Sized q (now (t .exit)) ⌝ }
 {
-    let c = table::client(t, q, r, LinkedTable::WAITING);
-    let e = lower_after(t, q, r);
-    remove(t, q, r);
-    put_in(t, q, r, c - 1, e);
+    let k = (n - 2) as usize;
+    let l = light_end(t, q, k);
+    leave_group(t, q, r, k + 1);
+    move_before(t, q, r, l);
+    table::set_client(t, q, r, LinkedTable::COUNT, n - 1);
+    enter_group(t, q, r, k);
 }
 
 // The first free row is taken, and holds the id.
@@ -187,7 +131,7 @@ fn take_row(t: &mut [u32], q: usize, id: u32) -> u32
     requires { ⌜ Sized q (now t) ⌝ }
     requires { ⌜ getD (now t) kind.freeClientAt 0 < q ⌝ }
     ensures { λ r. ⌜ r ≡ getD (now (t .entry)) kind.freeClientAt 0 ⌝ }
-    ensures { λ r. ⌜ Writes q (now (t .entry)) (now (t .exit)) (takeRow r id) 2 ⌝ }
+    ensures { λ r. ⌜ Writes q (now (t .entry)) (now (t .exit)) (takeRow r id) ⌝ }
     ensures { λ _. ⌜ Sized q (now (t .exit)) ⌝ }
 {
     let r = links::take_client(t, q);
@@ -195,54 +139,68 @@ fn take_row(t: &mut [u32], q: usize, id: u32) -> u32
     r
 }
 
+// r comes to stand lightest of all, with the count 1.
+fn put_first(t: &mut [u32], q: usize, r: u32)
+    requires { ⌜ Sized q (now t) ⌝ }
+    requires { ⌜ r < q ⌝ }
+    requires { ⌜ Link q (getD (now t) kind.lightestAt 0) ⌝ }
+    ensures { λ _. ⌜ Writes q (now (t .entry)) (now (t .exit)) (putIn r 1 kind.none) ⌝ }
+    ensures { λ _. ⌜ Sized q (now (t .exit)) ⌝ }
+{
+    let l = table::header(t, q, LinkedTable::LIGHTEST_AT);
+    links::insert_client(t, q, r, LinkedTable::NONE, l);
+    table::set_client(t, q, r, LinkedTable::COUNT, 1);
+    enter_group(t, q, r, 0);
+}
+
 // One client more.
 fn one_more(t: &mut [u32], q: usize)
     requires { ⌜ Sized q (now t) ⌝ }
     requires { ⌜ getD (now t) kind.clientsAt 0 < q ⌝ }
-    ensures { λ _. ⌜ Writes q (now (t .entry)) (now (t .exit)) oneMore 1 ⌝ }
+    ensures { λ _. ⌜ Writes q (now (t .entry)) (now (t .exit)) oneMore ⌝ }
     ensures { λ _. ⌜ Sized q (now (t .exit)) ⌝ }
 {
     let n = table::header(t, q, LinkedTable::CLIENTS_AT);
     table::set_header(t, q, LinkedTable::CLIENTS_AT, n + 1);
 }
 
-// One client less.
-fn one_less(t: &mut [u32], q: usize)
+// A client that is not there comes: in the first free row, in front of the bucket where its id was sought, lightest of all with the count 1. The row is the reply.
+pub fn admit(t: &mut [u32], q: usize, at: Sought, id: u32) -> u32
     requires { ⌜ Sized q (now t) ⌝ }
-    requires { ⌜ 1 ≤ getD (now t) kind.clientsAt 0 ⌝ }
-    ensures { λ _. ⌜ Writes q (now (t .entry)) (now (t .exit)) oneLess 1 ⌝ }
-    ensures { λ _. ⌜ Sized q (now (t .exit)) ⌝ }
-{
-    let n = table::header(t, q, LinkedTable::CLIENTS_AT);
-    table::set_header(t, q, LinkedTable::CLIENTS_AT, n - 1);
-}
-
-// A client that is not there comes: in the first free row, in front of its bucket, lightest of all with the count 1. The row is the reply.
-pub fn admit(t: &mut [u32], q: usize, s: &[u32; 1024], id: u32) -> u32
-    requires { ⌜ Sized q (now t) ⌝ }
-    requires { ⌜ IsSpread (now s) ⌝ }
+    requires { ⌜ Home q id at ⌝ }
     requires { ⌜ Drawn q (now t) (Vacant q) ⌝ }
     ensures { λ r. ⌜ r ≡ getD (now (t .entry)) kind.freeClientAt 0 ⌝ }
-    ensures { λ _. ⌜ Writes q (now (t .entry)) (now (t .exit)) (admitted q id) 12 ⌝ }
+    ensures { λ r. ⌜ Admits q (now (t .entry)) (now (t .exit)) id r ⌝ }
     ensures { λ _. ⌜ Sized q (now (t .exit)) ⌝ }
-    ensures { λ r. ⌜ Enters q (now (t .entry)) (now (t .exit)) id r ⌝ }
 {
     let r = take_row(t, q, id);
-    lookup::enter(t, q, s, r);
-    put_in(t, q, r, 1, LinkedTable::NONE);
+    lookup::enter(t, q, at, r);
+    put_first(t, q, r);
     one_more(t, q);
     r
+}
+
+// r leaves its group and the list.
+fn remove(t: &mut [u32], q: usize, r: u32)
+    requires { ⌜ Sized q (now t) ⌝ }
+    requires { ⌜ Drawn q (now t) (Listed q r (λ m. Unit {0})) ⌝ }
+    ensures { λ _. ⌜ Writes q (now (t .entry)) (now (t .exit)) (takeOut r) ⌝ }
+    ensures { λ _. ⌜ Sized q (now (t .exit)) ⌝ }
+{
+    let n = table::client(t, q, r, LinkedTable::COUNT);
+    leave_group(t, q, r, (n - 1) as usize);
+    links::unlink_client(t, q, r);
 }
 
 // The words of this layer in row r become 0, but for the chain's.
 fn clear_row(t: &mut [u32], q: usize, r: u32)
     requires { ⌜ Sized q (now t) ⌝ }
     requires { ⌜ r < q ⌝ }
-    ensures { λ _. ⌜ Writes q (now (t .entry)) (now (t .exit)) (clearRow r) 3 ⌝ }
+    ensures { λ _. ⌜ Writes q (now (t .entry)) (now (t .exit)) (clearRow r) ⌝ }
     ensures { λ _. ⌜ Sized q (now (t .exit)) ⌝ }
 {
     table::set_client(t, q, r, LinkedTable::ID, 0);
-    table::set_client(t, q, r, LinkedTable::WAITING, 0);
+    table::set_client(t, q, r, LinkedTable::COUNT, 0);
     table::set_client(t, q, r, LinkedTable::LIGHTER, 0);
 }
 
@@ -250,7 +208,7 @@ fn clear_row(t: &mut [u32], q: usize, r: u32)
 fn free_row(t: &mut [u32], q: usize, r: u32)
     requires { ⌜ Sized q (now t) ⌝ }
     requires { ⌜ r < q ⌝ }
-    ensures { λ _. ⌜ Writes q (now (t .entry)) (now (t .exit)) (freeRow r) 5 ⌝ }
+    ensures { λ _. ⌜ Writes q (now (t .entry)) (now (t .exit)) (freeRow r) ⌝ }
     ensures { λ _. ⌜ Sized q (now (t .exit)) ⌝ }
 {
     let first = table::header(t, q, LinkedTable::FREE_CLIENT_AT);
@@ -259,15 +217,25 @@ fn free_row(t: &mut [u32], q: usize, r: u32)
     table::set_header(t, q, LinkedTable::FREE_CLIENT_AT, r);
 }
 
+// One client less.
+fn one_less(t: &mut [u32], q: usize)
+    requires { ⌜ Sized q (now t) ⌝ }
+    requires { ⌜ 1 ≤ getD (now t) kind.clientsAt 0 ⌝ }
+    ensures { λ _. ⌜ Writes q (now (t .entry)) (now (t .exit)) oneLess ⌝ }
+    ensures { λ _. ⌜ Sized q (now (t .exit)) ⌝ }
+{
+    let n = table::header(t, q, LinkedTable::CLIENTS_AT);
+    table::set_header(t, q, LinkedTable::CLIENTS_AT, n - 1);
+}
+
 // A client goes, out of its bucket, its group and the list, and its row becomes the first free one.
 pub fn dismiss(t: &mut [u32], q: usize, s: &[u32; 1024], r: u32)
     requires { ⌜ Sized q (now t) ⌝ }
     requires { ⌜ IsSpread (now s) ⌝ }
-    requires { ⌜ Drawn q (now t) (Listed q r (λ n. Unit {0})) ⌝ }
+    requires { ⌜ Drawn q (now t) (Listed q r (λ m. Unit {0})) ⌝ }
     requires { ⌜ ((K : Kept q (now t)) × In r (K .clients)) ⌝ }
-    ensures { λ _. ⌜ Writes q (now (t .entry)) (now (t .exit)) (dismissed q r) 12 ⌝ }
+    ensures { λ _. ⌜ Dismisses q (now (t .entry)) (now (t .exit)) r ⌝ }
     ensures { λ _. ⌜ Sized q (now (t .exit)) ⌝ }
-    ensures { λ _. ⌜ Leaves q (now (t .entry)) (now (t .exit)) r ⌝ }
 {
     lookup::leave(t, q, s, r);
     remove(t, q, r);

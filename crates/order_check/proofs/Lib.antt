@@ -1,4 +1,5 @@
 -- Laws of the check of the clients.
-pub mod Turns
 pub mod Groups
+pub mod Turns
+pub mod Present
 pub mod Means

@@ -1,33 +1,52 @@
--- Loops that count down: what they ask of the turns that are left.
-use mathlib.Core.Path.{_≡_, subst}
+-- The turns of the walk of the order.
+use mathlib.Core.Path.{_≡_, refl}
 use mathlib.Core.Logic.{_↔_}
-use Prim.Native.Nat.{ℕ, zero, suc, _-_, _≤_, _<_}
+use Prim.Native.Nat.{ℕ, _-_, _≤_, _<_}
+use native.Mathlib.Nat.{max-eq-right}
 use native.Mathlib.Omega.{arith}
-use Rattle.table.specs.Regions.{Regions}
-use Rattle.order_check.specs.Check.{Walk, Free}
+use Rattle.table.specs.Kind as kind
+use Rattle.table.specs.Owners.{OrderWords}
+use Rattle.free_check.specs.Listed.{Listed}
+use Rattle.free_check.proofs.Listed as listed
+use Rattle.order_check.specs.Check.{Ended, Joins, Follows}
+use Rattle.order_check.proofs.Groups.{ends-back, begins, ends-on}
 
--- what a loop that counts down asks of n more turns is P: at a turn, and at the end
-module _ (F : ℕ → Type 0) (P : Type 0) (n : ℕ) (so : F n ↔ P) where
-  turn : 0 < n → F (suc (n - 1)) ↔ P
-  turn h = let e : n ≡ suc (n - 1) = omega arith in subst (λ (k : ℕ). F k ↔ P) e so
+module _ (q : ℕ) (O : OrderWords) (n at prev floor : ℕ) {W : Type 0} (so : Listed n (Follows q O at prev floor) ↔ W) where
+  pub turn : 0 < n → (((at < q) × Joins q O at (O .count at) prev floor) × Listed (n - 1) (Follows q O (O .heavier at) at (O .count at))) ↔ W
+  turn =
+      listed.turn n (Follows q O at prev floor) so at ((at < q) × Joins q O at (O .count at) prev floor) (Follows q O (O .heavier at) at (O .count at))
+      (λ r rs f. f .run .0)
+      (λ rs. (
+        λ f.
+            let up = f .rising .1 in
+            let least : 1 ≤ O .count at = omega (arith, f .rising .0) in
+            let rises : floor ≤ O .count at = omega (arith, f .rising .0) in
+            let most = f .most .0 in (
+              (f .below .0, record { back = f .run .1; least = least; rises = rises; most = most; begins = begins q O prev floor at rs up rises most (f .ends) }),
+              record {
+                below = f .below .1;
+                run = f .run .2;
+                rising = rw (max-eq-right least) up;
+                most = f .most .1;
+                ends = ends-on q O prev floor at rs up rises most (f .ends);
+              },
+            ),
+        λ p.
+            let j = p .0 .1 in
+            let f = p .1 in
+            let up = rw (max-eq-right (j .least)) at (f .rising) in
+            record {
+              below = (p .0 .0, f .below);
+              run = (refl, j .back, f .run);
+              rising = (omega (arith, j .least, j .rises), up);
+              most = (j .most, f .most);
+              ends = ends-back q O prev floor at rs up j (f .ends);
+            },
+      ))
 
-  stop : n ≤ 0 → F zero ↔ P
-  stop h = let e : n ≡ 0 = omega arith in subst (λ (k : ℕ). F k ↔ P) e so
-
-module _ (q : ℕ) (R : Regions) (n at prev floor : ℕ) (P : Type 0) (so : Walk q R n at prev floor ↔ P) where
-  pub walk-turn : 0 < n → Walk q R (suc (n - 1)) at prev floor ↔ P
-  walk-turn h = turn (λ k. Walk q R k at prev floor) P n so h
-
-  pub walk-end : n ≤ 0 → Walk q R zero at prev floor ↔ P
-  walk-end h = stop (λ k. Walk q R k at prev floor) P n so h
-
-module _ (q : ℕ) (R : Regions) (n at : ℕ) (P : Type 0) (so : Free q R n at ↔ P) where
-  pub free-turn : 0 < n → Free q R (suc (n - 1)) at ↔ P
-  free-turn h = turn (λ k. Free q R k at) P n so h
-
-  pub free-end : n ≤ 0 → Free q R zero at ↔ P
-  free-end h = stop (λ k. Free q R k at) P n so h
-
--- the first two parts hold, so the third is P
-pub left-over : {A B C P : Type 0} → ((A × B × C) ↔ P) → A → B → C ↔ P
-left-over i a b = (λ c. i .0 (a, b, c), λ p. i .1 p .2)
+  pub stop : n ≤ 0 → (((at ≡ kind.none) × (O .heaviest ≡ prev)) × Ended O floor prev q) ↔ W
+  stop h =
+      let s = listed.stop n (Follows q O at prev floor) so h in (
+        λ e. s .0 (record { below = tt; run = e .0; rising = tt; most = tt; ends = record { begun = e .1 .last; fresh = e .1 .bare } }),
+        λ w. let f = s .1 w in (f .run, record { last = f .ends .begun; bare = f .ends .fresh }),
+      )

@@ -1,50 +1,50 @@
--- What each part of the check looks for, row by row.
+-- What each part of the check tells.
+use mathlib.Core.List.{List, map}
 use mathlib.Core.Path.{_≡_}
-use Prim.Native.Nat.{ℕ, zero, suc, _-_, _≤_, _<_}
+use Prim.Native.Nat.{ℕ, suc, _-_, max, _≤_, _<_}
 use Rattle.table.specs.Kind as kind
 use Rattle.table.specs.Regions.{Regions}
-
--- the count rows from `from` on and below `to` hold none twice
-abbrev pub Bare : Regions → ℕ → ℕ → Type 0
-Bare R from to = (k : ℕ) → k < to → from ≤ k → (R .count k kind.lightEnd ≡ kind.none) × (R .count k kind.heavyEnd ≡ kind.none)
+use Rattle.table.specs.Owners.{OrderWords, orderWords}
+use Rattle.rules.specs.Rows.{headOr, lastOr, All, Below, Rising}
+use Rattle.rules.specs.Linked.{Run}
+use Rattle.rules.specs.Draw.{group}
+use Rattle.free_check.specs.Listed.{Listed}
+use Rattle.free_check.specs.Free.{Free}
 
 -- the group of this count, where it is not 0, ends with the row `prev`, and the count rows after its own and below `to` hold none twice
-pub record Ended (R : Regions) (count prev to : ℕ) : Type 0 where
-  pub last : (k : ℕ) → suc k ≡ count → R .count k kind.heavyEnd ≡ prev
-  pub bare : Bare R count to
+pub record Ended (O : OrderWords) (count prev to : ℕ) : Type 0 where
+  pub last : (k : ℕ) → suc k ≡ count → O .heavyEnd k ≡ prev
+  pub bare : (k : ℕ) → k < to → count ≤ k → (O .lightEnd k ≡ kind.none) × (O .heavyEnd k ≡ kind.none)
 
 -- the row `at`, of this count, may follow the row `prev` of count `floor`, which is 0 before the first row:
 -- where the counts differ, the group of `floor` has ended and the row is the lightest of its own
-pub record Joins (q : ℕ) (R : Regions) (at count prev floor : ℕ) : Type 0 where
-  pub back : R .client at kind.lighter ≡ prev
+pub record Joins (q : ℕ) (O : OrderWords) (at count prev floor : ℕ) : Type 0 where
+  pub back : O .lighter at ≡ prev
   pub least : 1 ≤ count
   pub rises : floor ≤ count
   pub most : count ≤ q
-  pub begins : (count ≡ floor → ⊥) → (k : ℕ) → suc k ≡ count → (R .count k kind.lightEnd ≡ at) × Ended R floor prev k
+  pub begins : (k : ℕ) → suc k ≡ count → floor ≤ k → (O .lightEnd k ≡ at) × Ended O floor prev k
 
--- n rows from `at` on, after `prev`, join one after the other, and there the order ends
-abbrev pub Walk : ℕ → Regions → ℕ → ℕ → ℕ → ℕ → Type 0
-Walk q R zero at prev floor = (at ≡ kind.none) × (R .header kind.heaviestAt ≡ prev) × Ended R floor prev q
-Walk q R (suc n) at prev floor =
-    (at < q) × Joins q R at (R .client at kind.count) prev floor × Walk q R n (R .client at kind.heavier) at (R .client at kind.count)
+-- the count rows hold the ends of the groups of these rows, which follow `prev`: of the group of count `floor`, which began before them, the heavy end
+pub record Ends (q : ℕ) (O : OrderWords) (prev floor : ℕ) (rows : List ℕ) : Type 0 where
+  pub begun : (k : ℕ) → suc k ≡ floor → O .heavyEnd k ≡ lastOr prev (group (O .count) (suc k) rows)
+  pub fresh : (k : ℕ) → k < q → floor ≤ k
+      → (O .lightEnd k ≡ headOr kind.none (group (O .count) (suc k) rows)) × (O .heavyEnd k ≡ lastOr kind.none (group (O .count) (suc k) rows))
 
--- the words of a free row, but the chain's, are 0
-abbrev pub Blank : Regions → ℕ → Type 0
-Blank R r = (f : ℕ) → f < kind.clientWords → (f ≡ kind.heavier → ⊥) → R .client r f ≡ 0
+-- after the row `prev` of count `floor` the order has these rows from `at` on, up to the heaviest
+pub record Follows (q : ℕ) (O : OrderWords) (at prev floor : ℕ) (rows : List ℕ) : Type 0 where
+  pub below : Below q rows
+  pub run : Run (O .lighter) (O .heavier) prev at rows kind.none (O .heaviest)
+  pub rising : Rising (max 1 floor) (map (O .count) rows)
+  pub most : All (λ r. O .count r ≤ q) rows
+  pub ends : Ends q O prev floor rows
 
--- n free rows from `at` on, and then none
-abbrev pub Free : ℕ → Regions → ℕ → ℕ → Type 0
-Free q R zero at = at ≡ kind.none
-Free q R (suc n) at = (at < q) × Blank R at × Free q R n (R .client at kind.heavier)
+-- all of it, as many rows as the header says
+abbrev pub Ranked : ℕ → OrderWords → Type 0
+Ranked q O = Listed (O .clients) (Follows q O (O .lightest) kind.none 0)
 
--- the walks from the header's words on, and all that the check looks for
-abbrev pub Ranked : ℕ → Regions → Type 0
-Ranked q R = Walk q R (R .header kind.clientsAt) (R .header kind.lightestAt) kind.none 0
-
-abbrev pub Idle : ℕ → Regions → ℕ → Type 0
-Idle q R n = Free q R n (R .header kind.freeClientAt)
-
-pub record Passes (q : ℕ) (R : Regions) : Type 0 where
-  pub few : R .header kind.clientsAt ≤ q
-  pub ranked : Ranked q R
-  pub idle : Idle q R (q - R .header kind.clientsAt)
+-- no more clients than there are rows, in order, and the other rows are free
+pub record Whole (q : ℕ) (R : Regions) : Type 0 where
+  pub few : orderWords R .clients ≤ q
+  pub ranked : Ranked q (orderWords R)
+  pub free : Free q kind.clientWords kind.heavier (R .client) (orderWords R .freeClient) (q - orderWords R .clients)

@@ -8,7 +8,7 @@ use table::LinkedTable;
 // The printer's largest window, and the words of its table.
 const PLACES: usize = 256;
 
-const SIZE: usize = LinkedTable::HEADER + LinkedTable::PLACE * PLACES;
+const SIZE: usize = LinkedTable::HEADER_WORDS + LinkedTable::PLACE_WORDS * PLACES;
 
 const COMMANDS: usize = 1000;
 

@@ -1,8 +1,8 @@
--- Laws of the questions: where they start, what the lookup finds in a ready table, the listings, and what is told of one client.
-pub mod Ends
+-- Laws of the questions. The layers above name `Kept` alone: what the lookup asks of a ready table, and what it finds there.
 pub mod Kept
-pub mod Walk
-pub mod Order
-pub mod Listings
-pub mod Own
-pub mod Tell
+mod Ends
+mod Walk
+mod Order
+mod Listings
+mod Own
+mod Tell

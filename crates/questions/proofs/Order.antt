@@ -6,7 +6,7 @@ use Prim.Native.Nat.{ℕ, zero, suc, _≤_, _<_}
 use native.Mathlib.Nat.{not-suc-le-zero}
 use native.Mathlib.Omega.{arith}
 use lib.Dec.{eqb}
-use lib.ListN.{length, getD, take, length-map, length-reverse}
+use lib.ListN.{length, getD, take, length-reverse}
 use Rattle.table.specs.Kind as kind
 use Rattle.table.specs.Regions.{clientWord}
 use Rattle.rules.specs.Rows.{All, Below}
@@ -17,13 +17,13 @@ use Rattle.rules.specs.Sound.{picture}
 use Rattle.rules.specs.Ready.{Ready}
 use Rattle.rules.proofs.Choose.{either-way, side-by-side}
 use Rattle.rules.proofs.Put.{put-there, all-puts, take-all}
-use Rattle.rules.proofs.Right.{clients-below, clients-distinct}
+use Rattle.rules.proofs.Right.{clients-distinct}
 use Rattle.rules.proofs.Plain.{clients-plain}
-use Rattle.rules.proofs.Ready.{ready-right, ready-holds}
+use Rattle.rules.proofs.Ready.{ready-right, ready-holds, ready-ordered}
 use Rattle.questions.specs.Ends.{fromEnd}
 use Rattle.questions.specs.Walk.{rowsFrom, pairsAt, clientsFrom, pairsFrom}
 use Rattle.questions.proofs.Ends.{Way, lightestFirst, heaviestFirst}
-use Rattle.questions.proofs.Kept.{ready-low}
+use Rattle.questions.proofs.Kept.{client-low}
 
 -- rows linked both ways, read from their other end: ys are those that were passed
 turned : (b o : ℕ → ℕ) (p h : ℕ) (xs ys : List ℕ) (n l m k : ℕ) → Run b o p h xs n l → Run o b h p ys m k → Run o b n l (reverseAux xs ys) m k
@@ -79,19 +79,15 @@ module _ {q : ℕ} {t : List ℕ} (y : Ready q t) where
   all-shown =
       let P = picture t in
       let v = ready-right y in
-      let h = ready-holds y in
       all-puts _ (P .clients)
       (λ c cs p. record {
-        low = ready-low y (clientRows P) (clients-below P v) (c .row) (put-there clientRow p);
-        id = take-all _ p (h .id) .0;
-        count = h .counted (c .row) (put-there clientRow p) ∙ sym (take-all _ p (clients-plain (P .clients) (v .ids) (P .window) (clients-distinct P v) (v .owners)) .0);
+        low = client-low y (c .row) (put-there clientRow p);
+        id = take-all _ p (ready-holds y .ids) .0;
+        count = ready-ordered y .counted (c .row) (put-there clientRow p) ∙ sym (take-all _ p (clients-plain (P .clients) (v .ids) (P .window) (clients-distinct P v) (v .owners)) .0);
       })
 
-  pub number : getD t kind.clientsAt 0 ≡ length (plain (picture t) .order)
-  number = ready-holds y .number ∙ sym (length-map (picture t .clients) clientId)
-
   order-run : Run (λ r. clientWord t q r kind.lighter) (λ r. clientWord t q r kind.heavier) kind.none (getD t kind.lightestAt 0) (clientRows (picture t)) kind.none (getD t kind.heaviestAt 0)
-  order-run = ready-holds y .order .run
+  order-run = ready-ordered y .linked .run
 
   -- k of the clients
   module _ (k : ℕ) (few : k ≤ length (clientRows (picture t))) where

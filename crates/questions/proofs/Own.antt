@@ -17,7 +17,7 @@ use Rattle.rules.proofs.Choose.{side-by-side}
 use Rattle.rules.proofs.Rows.{last-in}
 use Rattle.rules.proofs.Look.{id-in}
 use Rattle.rules.proofs.Plain.{id-test}
-use Rattle.questions.specs.Replies.{ticketAt}
+use Rattle.questions.specs.Ends.{ticketAt}
 use Rattle.questions.proofs.Ends.{End, oldestEnd, newestEnd}
 
 -- the tickets of client i's requests, oldest first: as many as its count, and its oldest and newest at the ends
@@ -51,24 +51,24 @@ newest-ticket i (r ∷ w) = rw (count-tickets i w) (go (eqb (r .id) i) (tickets 
 
 -- an end of a list: the first, or the last
 
-abbrev pub endOr : ℕ → ℕ → List ℕ → ℕ
-endOr end d xs = cond (eqb end kind.oldest) (headOr d xs) (lastOr d xs)
+abbrev pub endOf : ℕ → List ℕ → ℕ
+endOf end xs = cond (eqb end kind.oldest) (headOr 0 xs) (lastOr 0 xs)
 
-pub end-in : {end : ℕ} → End end → (d : ℕ) (xs : List ℕ) → 1 ≤ length xs → In (endOr end d xs) xs
-end-in e d [] h = absurd (not-suc-le-zero h)
-end-in oldestEnd d (x ∷ xs) h = inl refl
-end-in newestEnd d (x ∷ xs) h = last-in x xs
+pub end-in : {end : ℕ} → End end → (xs : List ℕ) → 1 ≤ length xs → In (endOf end xs) xs
+end-in e [] h = absurd (not-suc-le-zero h)
+end-in oldestEnd (x ∷ xs) h = inl refl
+end-in newestEnd (x ∷ xs) h = last-in x xs
 
 last-map : (f : ℕ → ℕ) (x : ℕ) (xs : List ℕ) → f (lastOr x xs) ≡ lastOr (f x) (map f xs)
 last-map f x [] = refl
 last-map f x (y ∷ xs) = last-map f y xs
 
-pub end-map : {end : ℕ} → End end → (f : ℕ → ℕ) (d : ℕ) (xs : List ℕ) → 1 ≤ length xs → f (endOr end d xs) ≡ endOr end 0 (map f xs)
-end-map e f d [] h = absurd (not-suc-le-zero h)
-end-map oldestEnd f d (x ∷ xs) h = refl
-end-map newestEnd f d (x ∷ xs) h = last-map f x xs
+pub end-map : {end : ℕ} → End end → (f : ℕ → ℕ) (xs : List ℕ) → 1 ≤ length xs → f (endOf end xs) ≡ endOf end (map f xs)
+end-map e f [] h = absurd (not-suc-le-zero h)
+end-map oldestEnd f (x ∷ xs) h = refl
+end-map newestEnd f (x ∷ xs) h = last-map f x xs
 
-pub end-ticket : {end : ℕ} → End end → (s : Waiting) (i : ℕ) → ticketAt end s i ≡ endOr end 0 (tickets i (s .window))
+pub end-ticket : {end : ℕ} → End end → (s : Waiting) (i : ℕ) → ticketAt end s i ≡ endOf end (tickets i (s .window))
 end-ticket oldestEnd s i = oldest-ticket i (s .window)
 end-ticket newestEnd s i = newest-ticket i (s .window)
 

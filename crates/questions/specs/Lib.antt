@@ -1,4 +1,4 @@
--- What the questions read, where they start, and what they answer.
+-- Where the questions start, what they read, and the output after a listing.
 pub mod Ends
 pub mod Walk
-pub mod Replies
+pub mod Output

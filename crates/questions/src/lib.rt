@@ -6,30 +6,23 @@ ghost use mathlib.Core.List.{_++_};
 ghost use Prim.Native.Nat.{ℕ, _*_, _≤_, _<_, min};
 ghost use lib.ListN.{length, drop};
 ghost use Rattle.table.specs.Kind as kind;
-ghost use Rattle.table.specs.Regions.{Sized};
+ghost use Rattle.table.specs.Regions.{Sized, regions};
+ghost use Rattle.table.specs.Owners.{orderWords};
 ghost use Rattle.rules.specs.Rows.{Below};
+ghost use Rattle.rules.specs.Linked.{Link};
 ghost use Rattle.rules.specs.Spread.{IsSpread};
 ghost use Rattle.rules.specs.History as history;
 ghost use Rattle.rules.specs.Picture.{clientRows, plain};
 ghost use Rattle.rules.specs.Sound.{picture};
 ghost use Rattle.rules.specs.Ready.{Ready};
-ghost use Rattle.lookup.specs.Book.{idOf, Found};
-ghost use Rattle.questions.specs.Ends.{orderEnd, onward, ownEnd};
+ghost use Rattle.lookup.specs.Promise.{Found};
+ghost use Rattle.answers.specs.Engine.{listing, ownTicket};
+ghost use Rattle.questions.specs.Ends.{orderEnd, onward, listingFrom, ownEnd, ticketAt};
 ghost use Rattle.questions.specs.Walk.{clientsFrom, pairsFrom};
-ghost use Rattle.questions.specs.Replies.{listedReply, listedWords, listingFrom, toldReply, ticketAt};
+ghost use Rattle.questions.specs.Output.{listedWords};
+use answers::Listing;
+use answers::OwnTicket;
 use table::LinkedTable;
-
-// What a listing answers: how many pairs it wrote, or the number of its refusal.
-pub enum Listed {
-    Number(usize),
-    Refused(u32),
-}
-
-// What oldest and newest answer: the ticket, or the number of the refusal.
-pub enum Told {
-    Ticket(u32),
-    Refused(u32),
-}
 
 fn smaller(a: usize, b: usize) -> usize
     ensures { λ r. ⌜ r ≡ min a b ⌝ }
@@ -48,7 +41,7 @@ fn list(t: &[u32], q: usize, first: u32, link: usize, n: usize, out: &mut [u32])
     let mut i = 0;
     while i < n {
         out[2 * i] = table::client(t, q, r, LinkedTable::ID);
-        out[2 * i + 1] = table::client(t, q, r, LinkedTable::WAITING);
+        out[2 * i + 1] = table::client(t, q, r, LinkedTable::COUNT);
         r = table::client(t, q, r, link);
         i += 1;
     }
@@ -56,51 +49,51 @@ fn list(t: &[u32], q: usize, first: u32, link: usize, n: usize, out: &mut [u32])
 
 // A listing from the end that the header word `end` holds, by the client word `link`.
 // The smaller of k and the number of clients is taken before anything is doubled.
-fn listing(t: &[u32], q: usize, k: usize, end: usize, link: usize, out: &mut [u32]) -> Listed
+fn list_from(t: &[u32], q: usize, k: usize, end: usize, link: usize, out: &mut [u32]) -> Listing
     requires { ⌜ Ready q (now t) ⌝ }
     requires { ⌜ orderEnd end ≡ true ⌝ }
     requires { ⌜ link ≡ onward end ⌝ }
-    ensures reply { λ r. ⌜ r ≡ listedReply k (length (now (out .entry))) (plain (picture (now (t .entry)))) ⌝ }
+    ensures reply { λ r. ⌜ r ≡ listing k (length (now (out .entry))) (plain (picture (now (t .entry)))) ⌝ }
     ensures words { λ _. ⌜ now (out .exit) ≡ listedWords (listingFrom end) k (plain (picture (now (t .entry)))) (now (out .entry)) ⌝ }
 {
     let clients = table::header(t, q, LinkedTable::CLIENTS_AT);
     let n = smaller(k, clients as usize);
     if out.len() < 2 * n {
-        return Listed::Refused(4);
+        return Listing::NoRoom;
     }
     let first = table::header(t, q, end);
     list(t, q, first, link, n, out);
-    Listed::Number(n)
+    Listing::Pairs(n)
 }
 
 // Heaviest first: id and count of min(k, clients) clients.
-pub fn heaviest(t: &[u32], q: usize, k: usize, out: &mut [u32]) -> Listed
+pub fn heaviest(t: &[u32], q: usize, k: usize, out: &mut [u32]) -> Listing
     requires { ⌜ Ready q (now t) ⌝ }
-    ensures reply { λ r. ⌜ r ≡ listedReply k (length (now (out .entry))) (plain (picture (now (t .entry)))) ⌝ }
+    ensures reply { λ r. ⌜ r ≡ listing k (length (now (out .entry))) (plain (picture (now (t .entry)))) ⌝ }
     ensures words { λ _. ⌜ now (out .exit) ≡ listedWords history.heaviest k (plain (picture (now (t .entry)))) (now (out .entry)) ⌝ }
 {
-    listing(t, q, k, LinkedTable::HEAVIEST_AT, LinkedTable::LIGHTER, out)
+    list_from(t, q, k, LinkedTable::HEAVIEST_AT, LinkedTable::LIGHTER, out)
 }
 
 // Lightest first.
-pub fn lightest(t: &[u32], q: usize, k: usize, out: &mut [u32]) -> Listed
+pub fn lightest(t: &[u32], q: usize, k: usize, out: &mut [u32]) -> Listing
     requires { ⌜ Ready q (now t) ⌝ }
-    ensures reply { λ r. ⌜ r ≡ listedReply k (length (now (out .entry))) (plain (picture (now (t .entry)))) ⌝ }
+    ensures reply { λ r. ⌜ r ≡ listing k (length (now (out .entry))) (plain (picture (now (t .entry)))) ⌝ }
     ensures words { λ _. ⌜ now (out .exit) ≡ listedWords history.lightest k (plain (picture (now (t .entry)))) (now (out .entry)) ⌝ }
 {
-    listing(t, q, k, LinkedTable::LIGHTEST_AT, LinkedTable::HEAVIER, out)
+    list_from(t, q, k, LinkedTable::LIGHTEST_AT, LinkedTable::HEAVIER, out)
 }
 
 // How many requests wait of the client whose row the lookup gave: 0 where it gave none.
 pub fn count_in(t: &[u32], q: usize, r: u32) -> u32
     requires { ⌜ Ready q (now t) ⌝ }
-    requires { ⌜ ((r ≡ kind.none → ⊥) → r < q) ⌝ }
-    ensures { λ n. ⌜ ((id : ℕ) → Found (idOf q (now (t .entry))) (clientRows (picture (now (t .entry)))) id r → n ≡ history.countOf (plain (picture (now (t .entry)))) id) ⌝ }
+    requires { ⌜ Link q r ⌝ }
+    ensures { λ n. ⌜ ((id : ℕ) → Found (orderWords (regions q (now (t .entry))) .id) (clientRows (picture (now (t .entry)))) id r → n ≡ history.countOf (plain (picture (now (t .entry)))) id) ⌝ }
 {
     if r == LinkedTable::NONE {
         return 0;
     }
-    table::client(t, q, r, LinkedTable::WAITING)
+    table::client(t, q, r, LinkedTable::COUNT)
 }
 
 // How many requests of that client wait: 0 for an absent one.
@@ -109,38 +102,38 @@ pub fn count(t: &[u32], q: usize, s: &[u32; 1024], id: u32) -> u32
     requires { ⌜ IsSpread (now s) ⌝ }
     ensures { λ r. ⌜ r ≡ history.countOf (plain (picture (now (t .entry)))) id ⌝ }
 {
-    count_in(t, q, lookup::find(t, q, s, id))
+    count_in(t, q, lookup::find(t, q, s, id).row)
 }
 
 // The ticket at that end of the client's own requests, whose row the client word `end` holds.
-fn own_ticket(t: &[u32], q: usize, s: &[u32; 1024], id: u32, end: usize) -> Told
+fn own_ticket(t: &[u32], q: usize, s: &[u32; 1024], id: u32, end: usize) -> OwnTicket
     requires { ⌜ Ready q (now t) ⌝ }
     requires { ⌜ IsSpread (now s) ⌝ }
     requires { ⌜ ownEnd end ≡ true ⌝ }
-    ensures { λ r. ⌜ r ≡ toldReply (ticketAt end) (plain (picture (now (t .entry)))) id ⌝ }
+    ensures { λ r. ⌜ r ≡ ownTicket (ticketAt end) (plain (picture (now (t .entry)))) id ⌝ }
 {
-    let c = lookup::find(t, q, s, id);
+    let c = lookup::find(t, q, s, id).row;
     if c == LinkedTable::NONE {
-        return Told::Refused(6);
+        return OwnTicket::NoClient;
     }
     let i = table::client(t, q, c, end);
-    Told::Ticket(table::item(t, q, i, LinkedTable::TICKET))
+    OwnTicket::Ticket(table::ticket(t, q, i))
 }
 
 // The ticket of that client's oldest request.
-pub fn oldest(t: &[u32], q: usize, s: &[u32; 1024], id: u32) -> Told
+pub fn oldest(t: &[u32], q: usize, s: &[u32; 1024], id: u32) -> OwnTicket
     requires { ⌜ Ready q (now t) ⌝ }
     requires { ⌜ IsSpread (now s) ⌝ }
-    ensures { λ r. ⌜ r ≡ toldReply history.oldestTicket (plain (picture (now (t .entry)))) id ⌝ }
+    ensures { λ r. ⌜ r ≡ ownTicket history.oldestTicket (plain (picture (now (t .entry)))) id ⌝ }
 {
     own_ticket(t, q, s, id, LinkedTable::OLDEST)
 }
 
 // The ticket of its newest.
-pub fn newest(t: &[u32], q: usize, s: &[u32; 1024], id: u32) -> Told
+pub fn newest(t: &[u32], q: usize, s: &[u32; 1024], id: u32) -> OwnTicket
     requires { ⌜ Ready q (now t) ⌝ }
     requires { ⌜ IsSpread (now s) ⌝ }
-    ensures { λ r. ⌜ r ≡ toldReply history.newestTicket (plain (picture (now (t .entry)))) id ⌝ }
+    ensures { λ r. ⌜ r ≡ ownTicket history.newestTicket (plain (picture (now (t .entry)))) id ⌝ }
 {
     own_ticket(t, q, s, id, LinkedTable::NEWEST)
 }

@@ -82,7 +82,7 @@ pub record Standing (q : ℕ) (cs : List Client) (free : List ℕ) (chains : Lis
   pub apart : Distinct (concat chains)
   pub nobody : All (λ r. In r (map clientRow cs)) (concat chains)
 
-pub standing : (P : Picture) → Right P → Standing (P .size) (P .clients) (P .freeClients) (P .chains)
+pub standing : (P : Picture) → Right P → Standing (P .places) (P .clients) (P .freeClients) (P .chains)
 standing P v =
     record {
       least = v .least;
@@ -95,7 +95,7 @@ standing P v =
       nobody = v .nobody;
     }
 
-pub standing-right : (P : Picture) → Standing (P .size) (P .clients) (P .freeClients) (P .chains) → Once (P .size) (itemRows P ++ P .freeItems)
+pub standing-right : (P : Picture) → Standing (P .places) (P .clients) (P .freeClients) (P .chains) → Once (P .places) (itemRows P ++ P .freeItems)
     → All (λ i. In (i .client) (clientRows P)) (P .window) → Rising 1 (map (countOf (P .window)) (clientRows P)) → Right P
 standing-right P s items owners counts =
     record {

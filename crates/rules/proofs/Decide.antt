@@ -98,7 +98,7 @@ same-decides (x ∷ xs) (y ∷ ys) =
 pub right-decides : (P : Picture) → Decides (right P) (Right P)
 unfolding right
 right-decides P =
-    let chain : Client → List ℕ = λ c. getD (P .chains) (bucket (P .size) (c .id)) [] in
+    let chain : Client → List ℕ = λ c. getD (P .chains) (bucket (P .places) (c .id)) [] in
     so-decides
     (λ ((((((((((least, most), items), clients), owners), counts), ids), buckets), stands), apart), nobody).
     record {
@@ -115,13 +115,13 @@ right-decides P =
       nobody = nobody;
     })
     (λ v. ((((((((((v .least, v .most), v .items), v .clients), v .owners), v .counts), v .ids), v .buckets), v .stands), v .apart), v .nobody))
-    (range-decides (P .size)
-    & once-decides (P .size) (itemRows P ++ P .freeItems)
-    & once-decides (P .size) (clientRows P ++ P .freeClients)
+    (range-decides (P .places)
+    & once-decides (P .places) (itemRows P ++ P .freeItems)
+    & once-decides (P .places) (clientRows P ++ P .freeClients)
     & all-decides (λ i. has (i .client) (clientRows P)) (λ i. In (i .client) (clientRows P)) (P .window) (λ i. has-decides (i .client) (clientRows P))
     & rising-decides 1 (map (countOf (P .window)) (clientRows P))
     & distinct-decides (map clientId (P .clients))
-    & eqb-decides (length (P .chains)) (P .size)
+    & eqb-decides (length (P .chains)) (P .places)
     & all-decides (λ c. has (c .row) (chain c)) (λ c. In (c .row) (chain c)) (P .clients) (λ c. has-decides (c .row) (chain c))
     & distinct-decides (concat (P .chains))
     & all-decides (λ r. has r (clientRows P)) (λ r. In r (clientRows P)) (concat (P .chains)) (λ r. has-decides r (clientRows P)))

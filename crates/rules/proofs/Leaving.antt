@@ -14,7 +14,7 @@ use Rattle.table.specs.Kind as kind
 use Rattle.rules.specs.Rows.{lastOr, In, All, Distinct}
 use Rattle.rules.specs.History as history
 use Rattle.rules.specs.History.{Request, heaviestClient, changed, evict, front, left, dropFront}
-use Rattle.rules.specs.Picture.{Item, Client, Picture, item, clientRow, clientId, clientRows, ownRows, countOf, idOf, requestOf, plain}
+use Rattle.rules.specs.Picture.{Item, Client, Picture, item, clientRow, clientId, clientRows, ownRows, countOf, idOf, requestOf, plain, limitsOf}
 use Rattle.rules.specs.Steps.{leave, newestItem, frontItem}
 use Rattle.rules.specs.Sound.{Right}
 use Rattle.rules.proofs.Put.{Put, here, there, put-map, put-in}
@@ -122,7 +122,7 @@ module _ (P : Picture) (v : Right P) (h : 1 ≤ length (P .window)) where
   pub evicted-request : requestOf (P .clients) newest ≡ history.newest (heaviestClient (plain P)) (plain P .window)
   evicted-request = newest-is .request ∙ ap (λ (z : ℕ). history.newest z (plain P .window)) (heaviest-is .1)
 
-  pub evict-step : Step (P .size) (evict (plain P)) (leave P newest)
+  pub evict-step : Step (limitsOf P) (evict (plain P)) (leave P newest)
   evict-step =
       let name = ap (idOf (P .clients)) (newest-is .client) ∙ heaviest-is .1 in
       let window = newest-is .rest ∙ ap (λ (z : ℕ). history.withoutNewest z (plain P .window)) (heaviest-is .1) in
@@ -132,7 +132,7 @@ module _ (P : Picture) (v : Right P) (h : 1 ≤ length (P .window)) where
   pub front-request : front (plain P .window) ≡ left (requestOf (P .clients) (frontItem (P .window)))
   front-request = ap (λ (w : List Item). front (map (requestOf (P .clients)) w)) (sym (front-first (P .window) h .1))
 
-  pub front-step : Step (P .size) (history.leave (plain P)) (leave P (frontItem (P .window)))
+  pub front-step : Step (limitsOf P) (history.leave (plain P)) (leave P (frontItem (P .window)))
   front-step =
       let (w, e) = front-first (P .window) h in
       step-so (ap (λ (l : List Item). dropFront (map (requestOf (P .clients)) l) (plain P)) e)

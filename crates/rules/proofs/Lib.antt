@@ -1,4 +1,5 @@
 -- Laws of the definitions, from lists up: of rows and columns, of right pictures and their words, and of the steps on pictures.
+pub mod Rule
 pub mod Choose
 pub mod Rows
 pub mod Put
@@ -19,6 +20,7 @@ pub mod Settle
 pub mod Moves
 pub mod Leaving
 pub mod Staying
+pub mod Sharing
 pub mod Steps
 pub mod Run
 pub mod Moved

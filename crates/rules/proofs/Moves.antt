@@ -12,7 +12,7 @@ use Rattle.table.specs.Kind as kind
 use Rattle.rules.specs.Rows.{headOr, rest, In, NotIn}
 use Rattle.rules.specs.History as history
 use Rattle.rules.specs.History.{Request, request, changed}
-use Rattle.rules.specs.Picture.{Item, Client, Picture, item, client, itemRow, clientRow, clientId, clientRows, countOf, idOf, rowOf, requestOf, plain}
+use Rattle.rules.specs.Picture.{Item, Client, Picture, item, client, itemRow, clientRow, clientId, clientRows, countOf, idOf, rowOf, requestOf, plain, limitsOf}
 use Rattle.rules.specs.Steps.{withoutItem, admit, known, joinAs, join, dropItem, release, leave}
 use Rattle.rules.specs.Sound.{Right}
 use Rattle.rules.proofs.Choose.{either-way}
@@ -41,7 +41,7 @@ module _ (P : Picture) (id : ℕ) (v : Right P) (n : NotIn id (map clientId (P .
   abbrev r : ℕ
   r = headOr kind.none (P .freeClients)
 
-  free : Standing (P .size) (P .clients) (r ∷ rest (P .freeClients)) (P .chains)
+  free : Standing (P .places) (P .clients) (r ∷ rest (P .freeClients)) (P .chains)
   free = rw (head-rest kind.none (P .freeClients) h) at (standing P v)
 
   near-new : Near (client r id) (P .clients) (admit id P)
@@ -72,7 +72,7 @@ module _ (P : Picture) (id : ℕ) (v : Right P) (n : NotIn id (map clientId (P .
 
 -- a request joins
 join-near : (P : Picture) {c : Client} {xs : List Client} (ticket : ℕ) → Near c xs P → 1 ≤ length (P .freeItems)
-    → Step (P .size) (history.join (plain P) (request (c .id) ticket)) (joinAs c ticket P)
+    → Step (limitsOf P) (history.join (plain P) (request (c .id) ticket)) (joinAs c ticket P)
 join-near P {c} {xs} ticket n h =
     let r : ℕ = headOr kind.none (P .freeItems) in
     let i : Item = item r (c .row) ticket in
@@ -83,12 +83,12 @@ join-near P {c} {xs} ticket n h =
     let window = map-snoc (requestOf (P .clients)) (P .window) i ∙ ap (λ (z : ℕ). plain P .window ++ (request z ticket ∷ [])) name in
     step-so (ap (λ (l : List Request). changed (c .id) l (plain P)) window) (rw some (rw some at s))
 
-pub join-step : (P : Picture) (id ticket : ℕ) → Right P → 1 ≤ length (P .freeItems) → Step (P .size) (history.join (plain P) (request id ticket)) (join P id ticket)
+pub join-step : (P : Picture) (id ticket : ℕ) → Right P → 1 ≤ length (P .freeItems) → Step (limitsOf P) (history.join (plain P) (request id ticket)) (join P id ticket)
 unfolding join
 join-step P id ticket v h = go (known id P) refl
   where
     go : (b : Bool) → known id P ≡ b
-        → Step (P .size) (history.join (plain P) (request id ticket)) (joinAs (client (rowOf (cond b P (admit id P) .clients) id) id) ticket (cond b P (admit id P)))
+        → Step (limitsOf P) (history.join (plain P) (request id ticket)) (joinAs (client (rowOf (cond b P (admit id P) .clients) id) id) ticket (cond b P (admit id P)))
     go true e =
         let f = find clientId id (P .clients) (has-decides id (map clientId (P .clients)) .0 e) in
         let c : f .one ≡ client (rowOf (P .clients) id) id = ap₂ client (sym (f .look clientRow)) (f .is) in
@@ -134,7 +134,7 @@ module _ (P : Picture) (i : Item) where
   leave-more n = rw (ne-eqb (countOf (withoutItem (i .row) (P .window)) (i .client)) 0 n)
 
 pub leave-step : (P : Picture) (i : Item) (v : List Item) → Right P → Put i v (P .window)
-    → Step (P .size) (changed (idOf (P .clients) (i .client)) (map (requestOf (P .clients)) v) (plain P)) (leave P i)
+    → Step (limitsOf P) (changed (idOf (P .clients) (i .client)) (map (requestOf (P .clients)) v) (plain P)) (leave P i)
 unfolding leave
 leave-step P i v h p =
     let f = find clientRow (i .client) (P .clients) (take-all (λ i. In (i .client) (clientRows P)) p (h .owners) .0) in

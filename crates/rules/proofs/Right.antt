@@ -17,14 +17,14 @@ module _ (P : Picture) (v : Right P) where
   pub items-distinct : Distinct (itemRows P)
   items-distinct = distinct-left (itemRows P) (P .freeItems) (v .items .distinct)
 
-  pub items-below : Below (P .size) (itemRows P)
-  items-below = below-left (P .size) (itemRows P) (P .freeItems) (v .items .below)
+  pub items-below : Below (P .places) (itemRows P)
+  items-below = below-left (P .places) (itemRows P) (P .freeItems) (v .items .below)
 
   pub clients-distinct : Distinct (clientRows P)
   clients-distinct = distinct-left (clientRows P) (P .freeClients) (v .clients .distinct)
 
-  pub clients-below : Below (P .size) (clientRows P)
-  clients-below = below-left (P .size) (clientRows P) (P .freeClients) (v .clients .below)
+  pub clients-below : Below (P .places) (clientRows P)
+  clients-below = below-left (P .places) (clientRows P) (P .freeClients) (v .clients .below)
 
   -- each client has a request, and stands in a chain, where nobody else does
   pub counts-one : (c : ℕ) → In c (clientRows P) → 1 ≤ countOf (P .window) c
@@ -33,17 +33,17 @@ module _ (P : Picture) (v : Right P) where
   pub chained : (c : ℕ) → In c (clientRows P) → In c (concat (P .chains))
   chained c i =
       let f = find clientRow c (P .clients) i in
-      let s = take-all (λ c. In (c .row) (getD (P .chains) (bucket (P .size) (c .id)) [])) (f .put) (v .stands) .0 in
-      in-concat (P .chains) (bucket (P .size) (f .one .id)) c (rw (f .is) at s)
+      let s = take-all (λ c. In (c .row) (getD (P .chains) (bucket (P .places) (c .id)) [])) (f .put) (v .stands) .0 in
+      in-concat (P .chains) (bucket (P .places) (f .one .id)) c (rw (f .is) at s)
 
   pub listed : (c : ℕ) → In c (concat (P .chains)) → In c (clientRows P)
   listed = all-in (λ r. In r (clientRows P)) (concat (P .chains)) (v .nobody)
 
   -- no more requests than places, and no more clients than requests: where an item row is free, so is a client row
-  pub places : length (P .window) + length (P .freeItems) ≡ P .size
+  pub places : length (P .window) + length (P .freeItems) ≡ P .places
   places = omega (arith, length-append (itemRows P) (P .freeItems), length-map (P .window) itemRow, v .items .long)
 
-  pub window-fits : length (P .window) ≤ P .size
+  pub window-fits : length (P .window) ≤ P .places
   window-fits = omega (arith, places)
 
   pub clients-fit : length (P .clients) ≤ length (P .window)

@@ -9,8 +9,8 @@ use lib.Dec.{eqb}
 use lib.ListN.{length}
 use borrow.Author.Tests.{ne-eqb, eqb-true, eqb-false}
 use Rattle.rules.specs.Rows.{In, NotIn, All, Once, Rising}
-use Rattle.rules.specs.History.{Waiting, changed}
-use Rattle.rules.specs.Picture.{Item, Client, Picture, item, itemRow, clientRow, clientId, itemRows, clientRows, countOf, idOf, requestOf, plain}
+use Rattle.rules.specs.History.{Waiting, changed, Limits}
+use Rattle.rules.specs.Picture.{Item, Client, Picture, item, itemRow, clientRow, clientId, itemRows, clientRows, countOf, idOf, requestOf, plain, limitsOf}
 use Rattle.rules.specs.Steps.{withoutClient, place, moved, release}
 use Rattle.rules.specs.Sound.{Right}
 use Rattle.rules.proofs.Put.{Put, here, put-map, put-first, put-second, put-last, put-all, take-all, all-puts, put-in, take-in, put-there, put-fresh, put-once, put-length}
@@ -19,31 +19,31 @@ use Rattle.rules.proofs.Look.{put-look, own-put, own-kept}
 use Rattle.rules.proofs.Clients.{Standing, rows-distinct, standing-moved, standing-released, standing-right}
 use Rattle.rules.proofs.Plain.{requests-so, place-put, place-rising, client-out, moved-plain}
 
--- a right picture of q places that forgets to s
-pub record Step (q : ℕ) (s : Waiting) (J : Picture) : Type 0 where
+-- a right picture within limits L that forgets to s
+pub record Step (L : Limits) (s : Waiting) (J : Picture) : Type 0 where
   pub right : Right J
-  pub size : J .size ≡ q
+  pub limits : limitsOf J ≡ L
   pub plain : plain J ≡ s
 
-pub step-so : {q : ℕ} {s t : Waiting} {J : Picture} → s ≡ t → Step q s J → Step q t J
-step-so e j = record { right = j .right; size = j .size; plain = j .plain ∙ e }
+pub step-so : {L : Limits} {s t : Waiting} {J : Picture} → s ≡ t → Step L s J → Step L t J
+step-so e j = record { right = j .right; limits = j .limits; plain = j .plain ∙ e }
 
 -- the client c may have any count; the others xs are in order
 pub record Near (c : Client) (xs : List Client) (P : Picture) : Type 0 where
-  pub standing : Standing (P .size) (P .clients) (P .freeClients) (P .chains)
+  pub standing : Standing (P .places) (P .clients) (P .freeClients) (P .chains)
   pub put : Put c xs (P .clients)
-  pub items : Once (P .size) (itemRows P ++ P .freeItems)
+  pub items : Once (P .places) (itemRows P ++ P .freeItems)
   pub owners : All (λ i. In (i .client) (clientRows P)) (P .window)
   pub others : Rising 1 (map (countOf (P .window)) (map clientRow xs))
 
 -- another window, or another order
 abbrev pub waiting : List Item → List ℕ → Picture → Picture
 waiting w free P =
-    record { size = P .size; window = w; clients = P .clients; freeItems = free; freeClients = P .freeClients; chains = P .chains }
+    record { places = P .places; window = w; clients = P .clients; freeItems = free; freeClients = P .freeClients; chains = P .chains }
 
 abbrev pub ordered : List Client → Picture → Picture
 ordered cs P =
-    record { size = P .size; window = P .window; clients = cs; freeItems = P .freeItems; freeClients = P .freeClients; chains = P .chains }
+    record { places = P .places; window = P .window; clients = cs; freeItems = P .freeItems; freeClients = P .freeClients; chains = P .chains }
 
 -- the client in its place by count, or released where it has no item
 abbrev pub settled : Client → Picture → Picture
@@ -75,7 +75,7 @@ module _ {c : Client} {xs : List Client} {P : Picture} (n : Near c xs P) where
       record {
         standing = n .standing;
         put = n .put;
-        items = put-once (P .size) (put-second (itemRows P) here) (put-first free (put-map itemRow p)) (rw e at (n .items));
+        items = put-once (P .places) (put-second (itemRows P) here) (put-first free (put-map itemRow p)) (rw e at (n .items));
         owners = put-all (λ i. In (i .client) (clientRows P)) p (put-there clientRow (n .put)) (n .owners);
         others = rw (counts-kept (map clientRow xs) p fresh) (n .others);
       }
@@ -86,7 +86,7 @@ module _ {c : Client} {xs : List Client} {P : Picture} (n : Near c xs P) where
       record {
         standing = n .standing;
         put = n .put;
-        items = put-once (P .size) (put-first (P .freeItems) (put-map itemRow p)) (put-second (map itemRow v) here) (n .items);
+        items = put-once (P .places) (put-first (P .freeItems) (put-map itemRow p)) (put-second (map itemRow v) here) (n .items);
         owners = take-all (λ i. In (i .client) (clientRows P)) p (n .owners) .1;
         others = rw (← counts-kept (map clientRow xs) p (rw e fresh)) (n .others);
       }
@@ -113,7 +113,7 @@ module _ {c : Client} {xs : List Client} {P : Picture} (n : Near c xs P) where
   released-name : (r : ℕ) → (r ≡ c .row → ⊥) → idOf xs r ≡ idOf (P .clients) r
   released-name r o = sym (put-look clientRow clientId r (n .put) fresh ∙ rw (ne-eqb (c .row) r (λ e. o (sym e))))
 
-  pub near-settled : Step (P .size) (changed (c .id) (plain P .window) (plain P)) (settled c P)
+  pub near-settled : Step (limitsOf P) (changed (c .id) (plain P .window) (plain P)) (settled c P)
   near-settled = go (eqb (countOf (P .window) (c .row)) 0) refl
     where
       ds : List Client
@@ -130,15 +130,15 @@ module _ {c : Client} {xs : List Client} {P : Picture} (n : Near c xs P) where
           λ k. record { window = window k; order = order k }
 
       go : (b : Bool) → eqb (countOf (P .window) (c .row)) 0 ≡ b
-          → Step (P .size) (changed (c .id) (plain P .window) (plain P)) (cond b (release (c .row) (ordered ds P)) (ordered ds P))
+          → Step (limitsOf P) (changed (c .id) (plain P .window) (plain P)) (cond b (release (c .row) (ordered ds P)) (ordered ds P))
       go true e =
           let z = eqb-true (countOf (P .window) (c .row)) 0 e in
           let m : ds ≡ xs = rw (e, out) in
-          record { right = rw m (released-right z); size = refl; plain = forgets xs m (all-so _ _ (P .window) (λ i o. released-name (i .client) o) (none-own (c .row) (P .window) z)) }
+          record { right = rw m (released-right z); limits = refl; plain = forgets xs m (all-so _ _ (P .window) (λ i o. released-name (i .client) o) (none-own (c .row) (P .window) z)) }
       go false e =
           let m : ds ≡ place (countOf (P .window)) c xs = rw (e, out) in
           record {
             right = rw m (placed-right (eqb-false (countOf (P .window) (c .row)) 0 e));
-            size = refl;
+            limits = refl;
             plain = forgets (place (countOf (P .window)) c xs) m (all-puts _ (P .window) (λ i v p. placed-name (i .client)));
           }

@@ -30,10 +30,10 @@ shows-draw t P v s = s .drawn ∙ agree-words (holds-agree P v (s .regs) (s .hol
 pub picture-draw : (P : Picture) → Right P → picture (draw P) ≡ P
 unfolding picture draw
 picture-draw P v =
-    let t = words (P .size) (drawn P) in
-    let r = regions (P .size) t in
-    let size : getD t kind.sizeAt 0 ≡ P .size = get-header (P .size) (drawn P) kind.sizeAt (lit< tt) in
-    ap (λ (q : ℕ). shown q (regions q t)) size ∙ holds-shown P v r (agree-holds P v r (read-agrees (P .size) t (drawn P) refl))
+    let t = words (P .places) (drawn P) in
+    let r = regions (P .places) t in
+    let size : getD t kind.placesAt 0 ≡ P .places = get-header (P .places) (drawn P) kind.placesAt (lit< tt) in
+    ap (λ (q : ℕ). shown q (regions q t)) size ∙ holds-shown P v r (agree-holds P v r (read-agrees (P .places) t (drawn P) refl))
 
 pub shows-picture : (t : List ℕ) (P : Picture) → Right P → Shows t P → picture t ≡ P
 shows-picture t P v s = ap picture (shows-draw t P v s) ∙ picture-draw P v
@@ -61,7 +61,7 @@ module _ (t : List ℕ) (e : sound t ≡ true) where
   pub sound-drawn : t ≡ draw (picture t)
   sound-drawn = sound-both .1
 
-  pub sound-words : t ≡ words (picture t .size) (drawn (picture t))
+  pub sound-words : t ≡ words (picture t .places) (drawn (picture t))
   unfolding draw
   sound-words = sound-drawn
 

@@ -12,8 +12,8 @@ use Rattle.rules.specs.Sound.{picture, sound, Right, Holds, Shows}
 use Rattle.rules.proofs.Held.{holds-agree}
 use Rattle.rules.proofs.Sound.{draw-shows, shows-draw, picture-draw, shows-picture, draw-sound, sound-right, sound-shows}
 
-pub written : {q : ℕ} {t u : List ℕ} {f : Regions → Regions} {k : ℕ} (Q : Picture) → Right Q → Q .size ≡ q → Sized q t
-    → Writes q t u f k → Holds (f (regions q t)) Q → u ≡ draw Q
+pub written : {q : ℕ} {t u : List ℕ} {f : Regions → Regions} (Q : Picture) → Right Q → Q .places ≡ q → Sized q t
+    → Writes q t u f → Holds (f (regions q t)) Q → u ≡ draw Q
 unfolding draw
 written {q} {t} {f = f} Q v s z w h =
     draws z w ∙ ap (λ (n : ℕ). words n (f (regions q t))) (sym s) ∙ agree-words (holds-agree Q v (f (regions q t)) h)

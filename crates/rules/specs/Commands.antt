@@ -1,6 +1,5 @@
 -- The three commands: what each comes to, and what carrying it out does to the plain history and to a picture.
-use Prim.Native.Nat.{ℕ}
-use Rattle.rules.specs.History.{Request, Waiting, Choice, Left, nothing, left, choice, arrive, slideLeft, slide, serve}
+use Rattle.rules.specs.History.{Request, Waiting, Limits, Choice, Left, nothing, left, choice, arrive, slideLeft, slide, serve}
 use Rattle.rules.specs.History as history
 use Rattle.rules.specs.Picture.{Picture}
 use Rattle.rules.specs.Steps.{arrived, slid}
@@ -33,16 +32,16 @@ abbrev pub ofServe : Left → Outcome
 ofServe nothing = idle
 ofServe (left r) = served r
 
--- at a window of q places
-abbrev pub outcome : ℕ → Waiting → Command → Outcome
-outcome q s (arriving r) = ofChoice (choice q s (r .id))
-outcome q s (sliding r) = ofSlide (slideLeft q s)
-outcome q s serving = ofServe (history.served s)
+-- within limits
+abbrev pub outcome : Limits → Waiting → Command → Outcome
+outcome L s (arriving r) = ofChoice (choice L s (r .id))
+outcome L s (sliding r) = ofSlide (slideLeft L s)
+outcome L s serving = ofServe (history.served s)
 
-abbrev pub step : ℕ → Waiting → Command → Waiting
-step q s (arriving r) = arrive q s r
-step q s (sliding r) = slide q s r
-step q s serving = serve s
+abbrev pub step : Limits → Waiting → Command → Waiting
+step L s (arriving r) = arrive L s r
+step L s (sliding r) = slide L s r
+step L s serving = serve s
 
 abbrev pub next : Picture → Command → Picture
 next P (arriving r) = arrived P (r .id) (r .ticket)

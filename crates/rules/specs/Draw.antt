@@ -38,7 +38,7 @@ group n k (c ∷ cs) = cond (eqb (n c) k) (c ∷ group n k cs) (group n k cs)
 -- the header, whose further words are 0
 abbrev pub headerWords : Picture → List ℕ
 headerWords P =
-    kind.mark ∷ P .size ∷ length (P .window) ∷ length (P .clients)
+    kind.mark ∷ P .places ∷ length (P .window) ∷ length (P .clients)
     ∷ headOr kind.none (itemRows P) ∷ lastOr kind.none (itemRows P)
     ∷ headOr kind.none (clientRows P) ∷ lastOr kind.none (clientRows P)
     ∷ headOr kind.none (P .freeItems) ∷ headOr kind.none (P .freeClients) ∷ []
@@ -74,4 +74,4 @@ drawn P =
     }
 
 unfoldable pub draw : Picture → List ℕ
-draw P = words (P .size) (drawn P)
+draw P = words (P .places) (drawn P)

@@ -73,12 +73,19 @@ largestCount s = count (heaviestClient s) (s .window)
 abbrev pub evict : Waiting → Waiting
 evict s = changed (heaviestClient s) (withoutNewest (heaviestClient s) (s .window)) s
 
--- a window of q places is full
-abbrev pub full : ℕ → Waiting → Bool
-full q s = leb q (length (s .window))
+-- what bounds a window: its places
+pub record Limits : Type 0 where
+  pub places : ℕ
 
--- the arrival rule: whether a client with n waiting requests is turned away, m being the largest count
-abbrev pub turnedAway : Bool → ℕ → ℕ → Bool
+abbrev pub limits : ℕ → Limits
+limits q = record { places = q }
+
+-- a window is full
+abbrev pub full : Limits → Waiting → Bool
+full L s = leb (L .places) (length (s .window))
+
+-- the arrival rule: whether a client with n waiting requests is turned away, m being the largest count. Its laws are `proofs/Rule.antt`; nothing above opens it
+unfoldable pub turnedAway : Bool → ℕ → ℕ → Bool
 turnedAway isFull n m = isFull && eqb n m
 
 -- what an arrival comes to; the evicting case names the request that left
@@ -87,10 +94,10 @@ pub data Choice : Type 0 where
   evicted : Request → Choice
   turned : Choice
 
-abbrev pub choice : ℕ → Waiting → ℕ → Choice
-choice q s i =
-    cond (turnedAway (full q s) (count i (s .window)) (largestCount s)) turned
-    (cond (full q s) (evicted (newest (heaviestClient s) (s .window))) joined)
+abbrev pub choice : Limits → Waiting → ℕ → Choice
+choice L s i =
+    cond (turnedAway (full L s) (count i (s .window)) (largestCount s)) turned
+    (cond (full L s) (evicted (newest (heaviestClient s) (s .window))) joined)
 
 -- the history after each choice, and after an arrival
 abbrev pub settle : Choice → Waiting → Request → Waiting
@@ -98,8 +105,8 @@ settle joined s r = join s r
 settle (evicted x) s r = join (evict s) r
 settle turned s r = s
 
-abbrev pub arrive : ℕ → Waiting → Request → Waiting
-arrive q s r = settle (choice q s (r .id)) s r
+abbrev pub arrive : Limits → Waiting → Request → Waiting
+arrive L s r = settle (choice L s (r .id)) s r
 
 -- the request that left at the front, if one did
 pub data Left : Type 0 where
@@ -119,11 +126,11 @@ abbrev pub leave : Waiting → Waiting
 leave s = dropFront (s .window) s
 
 -- slide: if full, the front request leaves first; then the new one joins
-abbrev pub slideLeft : ℕ → Waiting → Left
-slideLeft q s = cond (full q s) (front (s .window)) nothing
+abbrev pub slideLeft : Limits → Waiting → Left
+slideLeft L s = cond (full L s) (front (s .window)) nothing
 
-abbrev pub slide : ℕ → Waiting → Request → Waiting
-slide q s r = join (cond (full q s) (leave s) s) r
+abbrev pub slide : Limits → Waiting → Request → Waiting
+slide L s r = join (cond (full L s) (leave s) s) r
 
 -- serve: the front request leaves and is the reply
 abbrev pub served : Waiting → Left

@@ -1,5 +1,6 @@
 -- What the documents say, as definitions, in the order in which to read them.
 pub mod History
+pub mod Numbers
 pub mod Rows
 pub mod Tells
 pub mod Spread
@@ -9,8 +10,8 @@ pub mod Commands
 pub mod Run
 pub mod Draw
 pub mod Linked
-pub mod Sound
 pub mod Parts
+pub mod Sound
 pub mod Ready
 pub mod Verdict
 pub mod Cases

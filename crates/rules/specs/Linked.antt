@@ -3,7 +3,7 @@ use mathlib.Core.List.{List, [], _∷_}
 use mathlib.Core.Path.{_≡_}
 use Prim.Native.Nat.{ℕ, _<_}
 use Rattle.table.specs.Kind as kind
-use Rattle.table.specs.Regions.{Regions}
+use Rattle.table.specs.Owners.{OrderWords, WindowWords}
 use Rattle.rules.specs.Rows.{Distinct, Below}
 
 -- a link word: none, or a row of a table of q places
@@ -34,11 +34,11 @@ Chain o h [] = h ≡ kind.none
 Chain o h (r ∷ rs) = (h ≡ r) × Chain o (o r) rs
 
 -- the lists of a table: every waiting item, oldest first; the clients, lightest first; the items of one client, oldest first
-abbrev pub window : Regions → Links
-window R = record { back = λ r. R .item r kind.earlier; on = λ r. R .item r kind.later; first = R .header kind.frontAt; last = R .header kind.backAt }
+abbrev pub window : WindowWords → Links
+window W = record { back = W .earlier; on = W .later; first = W .front; last = W .back }
 
-abbrev pub order : Regions → Links
-order R = record { back = λ r. R .client r kind.lighter; on = λ r. R .client r kind.heavier; first = R .header kind.lightestAt; last = R .header kind.heaviestAt }
+abbrev pub order : OrderWords → Links
+order O = record { back = O .lighter; on = O .heavier; first = O .lightest; last = O .heaviest }
 
-abbrev pub own : ℕ → Regions → Links
-own c R = record { back = λ r. R .item r kind.ownEarlier; on = λ r. R .item r kind.ownLater; first = R .client c kind.oldest; last = R .client c kind.newest }
+abbrev pub own : ℕ → WindowWords → Links
+own c W = record { back = W .ownEarlier; on = W .ownLater; first = W .oldest c; last = W .newest c }

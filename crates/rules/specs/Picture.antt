@@ -4,7 +4,7 @@ use mathlib.Core.Bool.{cond}
 use Prim.Native.Nat.{ℕ}
 use lib.Dec.{eqb}
 use lib.ListN.{length}
-use Rattle.rules.specs.History.{Request, Waiting, request}
+use Rattle.rules.specs.History.{Request, Waiting, Limits, limits, request}
 
 -- a waiting request in its row, with its client's row
 pub record Item : Type 0 where
@@ -19,7 +19,7 @@ pub record Client : Type 0 where
 
 -- the window oldest first, the clients lightest first, the free rows in the order of their chains, the client rows of each bucket first to last
 pub record Picture : Type 0 where
-  pub size : ℕ
+  pub places : ℕ
   pub window : List Item
   pub clients : List Client
   pub freeItems : List ℕ
@@ -78,3 +78,7 @@ requestOf cs i = request (idOf cs (i .client)) (i .ticket)
 
 abbrev pub plain : Picture → Waiting
 plain P = record { window = map (requestOf (P .clients)) (P .window); order = map clientId (P .clients) }
+
+-- what bounds its window
+abbrev pub limitsOf : Picture → Limits
+limitsOf P = limits (P .places)

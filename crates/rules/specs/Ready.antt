@@ -7,4 +7,4 @@ use Rattle.rules.specs.Sound.{picture, sound}
 
 pub record Ready (q : ℕ) (t : List ℕ) : Type 0 where
   pub sound : sound t ≡ true
-  pub size : picture t .size ≡ q
+  pub places : picture t .places ≡ q

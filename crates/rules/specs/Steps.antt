@@ -8,7 +8,7 @@ use Rattle.table.specs.Kind as kind
 use Rattle.rules.specs.Rows.{headOr, lastOr, rest, without, has}
 use Rattle.rules.specs.Spread.{bucket}
 use Rattle.rules.specs.History.{Choice, joined, evicted, turned, choice}
-use Rattle.rules.specs.Picture.{Item, Client, Picture, item, client, clientId, clientRows, countOf, idOf, rowOf, plain}
+use Rattle.rules.specs.Picture.{Item, Client, Picture, item, client, clientId, clientRows, countOf, idOf, rowOf, limitsOf, plain}
 
 -- n numbers, counted up from one
 abbrev pub count-up : ℕ → ℕ → List ℕ
@@ -18,7 +18,7 @@ count-up (suc n) from = from ∷ count-up n (suc from)
 -- after a lay-out: nobody waits, every row is free, each bucket empty
 abbrev pub empty : ℕ → Picture
 empty q =
-    record { size = q; window = []; clients = []; freeItems = count-up q 0; freeClients = count-up q 0; chains = replicate q [] }
+    record { places = q; window = []; clients = []; freeItems = count-up q 0; freeClients = count-up q 0; chains = replicate q [] }
 
 -- the clients but the one in row r
 abbrev pub withoutClient : ℕ → List Client → List Client
@@ -45,12 +45,12 @@ enter (suc b) r (c ∷ cs) = c ∷ enter b r cs
 abbrev pub admit : ℕ → Picture → Picture
 admit id P =
     record {
-      size = P .size;
+      places = P .places;
       window = P .window;
       clients = client (headOr kind.none (P .freeClients)) id ∷ P .clients;
       freeItems = P .freeItems;
       freeClients = rest (P .freeClients);
-      chains = enter (bucket (P .size) id) (headOr kind.none (P .freeClients)) (P .chains);
+      chains = enter (bucket (P .places) id) (headOr kind.none (P .freeClients)) (P .chains);
     }
 
 abbrev pub known : ℕ → Picture → Bool
@@ -64,7 +64,7 @@ abbrev pub joinAs : Client → ℕ → Picture → Picture
 joinAs c ticket P =
     let w : List Item = P .window ++ (item (headOr kind.none (P .freeItems)) (c .row) ticket ∷ []) in
     record {
-      size = P .size;
+      places = P .places;
       window = w;
       clients = moved c w (P .clients);
       freeItems = rest (P .freeItems);
@@ -84,7 +84,7 @@ abbrev pub dropItem : Item → Picture → Picture
 dropItem i P =
     let w : List Item = withoutItem (i .row) (P .window) in
     record {
-      size = P .size;
+      places = P .places;
       window = w;
       clients = moved (client (i .client) (idOf (P .clients) (i .client))) w (P .clients);
       freeItems = i .row ∷ P .freeItems;
@@ -96,7 +96,7 @@ dropItem i P =
 abbrev pub release : ℕ → Picture → Picture
 release c P =
     record {
-      size = P .size;
+      places = P .places;
       window = P .window;
       clients = P .clients;
       freeItems = P .freeItems;
@@ -125,11 +125,11 @@ arrivedAs (evicted r) P id ticket =
 arrivedAs turned P id ticket = P
 
 unfoldable pub arrived : Picture → ℕ → ℕ → Picture
-arrived P id ticket = arrivedAs (choice (P .size) (plain P) id) P id ticket
+arrived P id ticket = arrivedAs (choice (limitsOf P) (plain P) id) P id ticket
 
 -- slide and serve
 unfoldable pub slid : Picture → ℕ → ℕ → Picture
-slid P id ticket = join (cond (leb (P .size) (length (P .window))) (leave P (frontItem (P .window))) P) id ticket
+slid P id ticket = join (cond (leb (P .places) (length (P .window))) (leave P (frontItem (P .window))) P) id ticket
 
 unfoldable pub served : Picture → Picture
 served P = cond (eqb (length (P .window)) 0) P (leave P (frontItem (P .window)))

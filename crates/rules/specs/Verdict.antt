@@ -5,6 +5,7 @@ use Prim.Native.Nat.{ℕ, _+_, _*_}
 use lib.Dec.{eqb, leb, ltb}
 use lib.ListN.{length, getD, take, drop}
 use Rattle.table.specs.Kind as kind
+use Rattle.rules.specs.Numbers as number
 use Rattle.rules.specs.Picture.{Picture}
 use Rattle.rules.specs.Steps.{empty}
 use Rattle.rules.specs.Draw.{draw}
@@ -12,15 +13,15 @@ use Rattle.rules.specs.Sound.{picture, sound}
 
 -- the words that the lent table takes, by its own Q
 abbrev pub room : List ℕ → ℕ
-room t = kind.size (getD t kind.sizeAt 0)
+room t = kind.size (getD t kind.placesAt 0)
 
 -- the refusal number of every call but lay-out, 0 for none: under 16 words, mark or Q, too short for Q, the rest
 unfoldable pub verdict : List ℕ → ℕ
 verdict t =
-    cond (ltb (length t) kind.headerWords) 2
-    (cond (eqb (getD t kind.markAt 0) kind.mark && kind.inRange (getD t kind.sizeAt 0))
-    (cond (ltb (length t) (room t)) 2 (cond (sound (take (room t) t)) 0 3))
-    3)
+    cond (ltb (length t) kind.headerWords) number.tooShort
+    (cond (eqb (getD t kind.markAt 0) kind.mark && kind.inRange (getD t kind.placesAt 0))
+    (cond (ltb (length t) (room t)) number.tooShort (cond (sound (take (room t) t)) 0 number.unsound))
+    number.unsound)
 
 -- the words after a call that takes the picture to the next: as they were where it is refused, and beyond the table
 unfoldable pub afterwards : (Picture → Picture) → List ℕ → List ℕ
@@ -28,20 +29,20 @@ afterwards f t = cond (eqb (verdict t) 0) (draw (f (picture (take (room t) t))) 
 
 -- lay-out's refusal number, of a Q and the number of words lent: Q out of range, too few words
 abbrev pub layOutNumber : ℕ → ℕ → ℕ
-layOutNumber q n = cond (kind.inRange q) (cond (ltb n (kind.size q)) 2 0) 1
+layOutNumber q n = cond (kind.inRange q) (cond (ltb n (kind.size q)) number.tooShort 0) number.outOfRange
 
 -- the words after a lay-out
 unfoldable pub laidOut : ℕ → List ℕ → List ℕ
 laidOut q t = cond (eqb (layOutNumber q (length t)) 0) (draw (empty q) ++ drop (kind.size q) t) t
 
--- whether q is in range and the words that a table of q places takes follow the start
-abbrev pub fitting : List ℕ → ℕ → ℕ → Bool
-fitting pool start q = kind.inRange q && leb (start + kind.size q) (length pool)
+-- whether q is in range and, in a pool of so many words, those that a table of q places takes follow the start
+abbrev pub fitting : ℕ → ℕ → ℕ → Bool
+fitting long start q = kind.inRange q && leb (start + kind.size q) long
 
 -- the words that carve gives: those from the start on that the table needs, else none
 abbrev pub carved : List ℕ → ℕ → ℕ → List ℕ
-carved pool start q = cond (fitting pool start q) (take (kind.size q) (drop start pool)) []
+carved pool start q = cond (fitting (length pool) start q) (take (kind.size q) (drop start pool)) []
 
 -- where they stand, p being where the pool does: a word is 4 bytes. (Where an empty part stands is not fixed by document 01: here at the pool's own place)
 abbrev pub placed : ℕ × ℕ → List ℕ → ℕ → ℕ → ℕ × ℕ
-placed p pool start q = cond (fitting pool start q) (p .0, p .1 + 4 * start) p
+placed p pool start q = cond (fitting (length pool) start q) (p .0, p .1 + 4 * start) p

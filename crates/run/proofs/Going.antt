@@ -1,160 +1,149 @@
--- A run on its way: what is reported so far and the table as it stands lead to what the whole run reports and leaves.
+-- A run on its way: commands were carried out, and the rest of the bytes says what follows them.
 use mathlib.Core.Bool.{true, false}
-use mathlib.Core.List.{List}
+use mathlib.Core.List.{List, [], _∷_, _++_, append-assoc, append-nil}
 use mathlib.Core.Path.{_≡_, refl, sym, ap, _∙_, subst}
 use Prim.Native.Nat.{ℕ, suc, _+_, _*_, _-_, _≤_, _<_}
 use native.Mathlib.Omega.{arith}
 use native.Mathlib.Numerals.{add-one}
-use lib.ListN.{length, drop, length-drop}
+use lib.ListN.{length, getD, replicate, set, drop, length-drop, length-append}
 use lib.Seq.{drop-drop}
-use Rattle.rules.specs.Commands.{Outcome, joined, evicted, turned, passed, served, idle, outcome, step, next}
-use Rattle.rules.specs.Run.{commandBytes, carried, nextAll, adds}
-use Rattle.rules.specs.Picture.{Picture, plain}
+use Rattle.rules.specs.Numbers as number
+use Rattle.rules.specs.Commands.{Command, Outcome, outcome, next}
+use Rattle.rules.specs.Run.{commandBytes, stop, carried, after, outcomes, nextAll}
+use Rattle.rules.specs.Picture.{Picture, limitsOf, plain}
 use Rattle.rules.specs.Draw.{draw}
-use Rattle.rules.specs.Sound.{picture}
+use Rattle.rules.specs.Sound.{picture, Right}
 use Rattle.rules.specs.Ready.{Ready}
-use Rattle.rules.proofs.Run.{Stops, next-step, ended, spent, short, unknown}
+use Rattle.rules.proofs.Run.{Stops, next-step, all-step, ended, spent, short, unknown, goes-on, outcomes-length, outcomes-append, nextAll-append}
 use Rattle.rules.proofs.Settle.{Step}
 use Rattle.rules.proofs.Ready.{ready-right, ready-drawn, drawn-ready, drawn-picture}
-use Rattle.run.specs.declared.Command.{Command}
-use Rattle.run.specs.declared.Ran.{Ran}
-use Rattle.run.specs.Tally.{commandAt, isKnown, asCommand, none, halted, tally, Within}
-use Rattle.run.specs.Runs.{reported}
-use Rattle.run.proofs.Runs.{ranFrom, from-none, Same, stopped, goes}
+use Rattle.command.specs.declared.Command as code
+use Rattle.command.specs.Bytes.{commandAt, isKnown, asCommand}
+use Rattle.answers.specs.declared.Report.{Report}
+use Rattle.run.specs.Seen.{largest, caseOf, cases, Seen, joinedIn, reportOn}
+use Rattle.run.specs.Runs.{totalled, reported}
+use Rattle.run.proofs.Seen.{none-seen, one-more, joined-few, seen-few, seen-totalled}
 
--- a 64-bit length
-abbrev pub bound : ℕ
-bound = 18446744073709551615
+-- what the commands come to from a picture
+abbrev cameTo : Picture → List Command → List Outcome
+cameTo P = outcomes (limitsOf P) (plain P)
 
-pub record Going (q : ℕ) (t₀ : List ℕ) (bytes : List ℕ) (budget : ℕ) (t : List ℕ) (at : ℕ) (ran : Ran) : Type 0 where
+-- from the table t₀: `done` commands were carried out, `seen` counts what they came to, t is the table since, and the bytes from `at` on say what follows
+pub record Going (q : ℕ) (t₀ bytes : List ℕ) (budget : ℕ) (t : List ℕ) (at done : ℕ) (seen : List ℕ) : Type 0 where
+  pub commands : List Command
   pub inside : at ≤ length bytes
-  pub afford : ran .done ≤ budget
-  pub nines : commandBytes * ran .done ≤ at
-  pub within : Within (ran .done) ran
-  pub running : ran .stop ≡ 0
+  pub afford : done ≤ budget
+  pub nines : commandBytes * done ≤ at
+  pub number : done ≡ length commands
+  pub counted : Seen seen (cameTo (picture t₀) commands)
+  pub right : Right (picture t₀)
   pub ready : Ready q t
-  pub same : Same ran (picture t) (budget - ran .done) (drop at bytes) (reported (picture t₀) budget bytes) (nextAll (picture t₀) (carried budget bytes))
+  pub drawn : picture t ≡ nextAll (picture t₀) commands
+  pub stops : stop budget bytes ≡ stop (budget - done) (drop at bytes)
+  pub follow : carried budget bytes ≡ commands ++ carried (budget - done) (drop at bytes)
 
 -- before the first command
-pub starts : (q : ℕ) (t bytes : List ℕ) (budget : ℕ) {r : Ran} → Ready q t → r ≡ none → Going q t bytes budget t 0 r
-starts q t bytes budget y fresh =
+pub starts : (q : ℕ) (t bytes : List ℕ) (budget : ℕ) → Ready q t → Going q t bytes budget t 0 0 (replicate cases 0)
+starts q t bytes budget y =
     let e : budget - 0 ≡ budget = omega arith in
-    subst (Going q t bytes budget t 0) (sym fresh)
-    (record {
+    record {
+      commands = [];
       inside = omega arith;
       afford = omega arith;
       nines = omega arith;
-      within = record { most = omega arith; joined = omega arith; evicted = omega arith; passed = omega arith; served = omega arith; turned = omega arith; idle = omega arith };
-      running = refl;
+      number = refl;
+      counted = none-seen;
+      right = ready-right y;
       ready = y;
-      same = rw e (from-none (picture t) budget bytes, refl);
-    })
-
--- a command is counted at most once in each total
-abbrev Once : Outcome → Type 0
-Once o =
-    let k = adds o in
-    ((k .joined ≤ 1) × (k .evicted ≤ 1)) × (((k .passed ≤ 1) × (k .served ≤ 1)) × ((k .turned ≤ 1) × (k .idle ≤ 1)))
-
-each-once : (o : Outcome) → Once o
-each-once joined = ((omega arith, omega arith), ((omega arith, omega arith), (omega arith, omega arith)))
-each-once (evicted r) = ((omega arith, omega arith), ((omega arith, omega arith), (omega arith, omega arith)))
-each-once turned = ((omega arith, omega arith), ((omega arith, omega arith), (omega arith, omega arith)))
-each-once (passed r) = ((omega arith, omega arith), ((omega arith, omega arith), (omega arith, omega arith)))
-each-once (served r) = ((omega arith, omega arith), ((omega arith, omega arith), (omega arith, omega arith)))
-each-once idle = ((omega arith, omega arith), ((omega arith, omega arith), (omega arith, omega arith)))
-
-one-within : (r : Ran) (o : Outcome) → r .done + 2 ≤ bound → Within (r .done) r → Within (r .done + 1) (tally r o)
-one-within r o b w =
-    let ((j, e), ((p, s), (t, i))) = each-once o in
-    record {
-      most = omega (arith, b);
-      joined = omega (arith, j, w .joined);
-      evicted = omega (arith, e, w .evicted);
-      passed = omega (arith, p, w .passed);
-      served = omega (arith, s, w .served);
-      turned = omega (arith, t, w .turned);
-      idle = omega (arith, i, w .idle);
+      drawn = refl;
+      stops = rw e refl;
+      follow = rw e refl;
     }
 
-module _ {q : ℕ} {t₀ bytes : List ℕ} {budget : ℕ} {t : List ℕ} {at : ℕ} {ran : Ran} (g : Going q t₀ bytes budget t at ran) where
+module _ {q : ℕ} {t₀ bytes : List ℕ} {budget : ℕ} {t : List ℕ} {at done : ℕ} {seen : List ℕ} (g : Going q t₀ bytes budget t at done seen) where
+  abbrev P : Picture
+  P = picture t₀
+
+  -- every command came to something
+  came : done ≡ length (cameTo P (g .commands))
+  came = g .number ∙ sym (outcomes-length (limitsOf P) (plain P) (g .commands))
+
+  -- the numbers stay far below the largest
+  pub seen-below : length bytes ≤ largest → at < length bytes → (done + 1 ≤ largest) × ((k : ℕ) → k < cases → getD seen k 0 + 1 ≤ largest)
+  seen-below b more = (omega (arith, g .nines), λ k h. omega (arith, seen-few (g .counted) k h, came, g .nines))
+
+  pub joined-below : length bytes ≤ largest → joinedIn seen ≤ largest
+  joined-below b = omega (arith, joined-few (g .counted), came, g .nines, g .inside)
+
   -- the whole run reports this, and leaves the table as it stands
-  abbrev Comes : Ran → Type 0
-  Comes r = (r ≡ reported (picture t₀) budget bytes) × (t ≡ draw (nextAll (picture t₀) (carried budget bytes)))
+  abbrev Comes : Report → Type 0
+  Comes r = (r ≡ reported P budget bytes) × (t ≡ draw (nextAll P (carried budget bytes)))
 
   -- where this is its stop
-  halts : (n : ℕ) → Stops (budget - ran .done) (drop at bytes) n → Comes (halted n ran)
+  halts : (n : ℕ) → Stops (budget - done) (drop at bytes) n → Comes (reportOn n done seen)
   halts n k =
-      let h = stopped ran (picture t) (budget - ran .done) (drop at bytes) n k in
-      (sym (h .0) ∙ g .same .0, ready-drawn (g .ready) ∙ ap draw (sym (h .1) ∙ g .same .1))
+      let all : carried budget bytes ≡ g .commands = g .follow ∙ ap (λ (cs : List Command). g .commands ++ cs) (k .nothing) ∙ append-nil (g .commands) in
+      let last : stop budget bytes ≡ n = g .stops ∙ k .number in
+      (
+        seen-totalled (g .counted) n came ∙ (λ i. totalled (sym last i) (cameTo P (sym all i))),
+        ready-drawn (g .ready) ∙ ap draw (g .drawn) ∙ ap (λ (cs : List Command). draw (nextAll P cs)) (sym all),
+      )
 
-  pub all-read : (at < length bytes → ⊥) → Comes ran
-  all-read n =
-      let k = halts 0 (ended (budget - ran .done) (drop at bytes) (omega (arith, length-drop at bytes, g .inside, n))) in
-      let e : halted 0 ran ≡ ran = (λ i. record {
-        stop = sym (g .running) i;
-        done = ran .done;
-        joined = ran .joined;
-        evicted = ran .evicted;
-        passed = ran .passed;
-        served = ran .served;
-        turned = ran .turned;
-        idle = ran .idle;
-      }) in
-      (sym e ∙ k .0, k .1)
+  pub all-read : (at < length bytes → ⊥) → Comes (reportOn number.ended done seen)
+  all-read n = halts number.ended (ended (budget - done) (drop at bytes) (omega (arith, length-drop at bytes, g .inside, n)))
 
   module _ (more : at < length bytes) where
     some : length (drop at bytes) ≡ 0 → ⊥
     some e = omega (arith, more, e, length-drop at bytes)
 
-    pub budget-spent : ran .done ≡ budget → Comes (halted 1 ran)
+    pub budget-spent : done ≡ budget → Comes (reportOn number.spent done seen)
     budget-spent e =
-        let z : budget - ran .done ≡ 0 = omega (arith, e) in
-        halts 1 (rw z (spent (drop at bytes) some))
+        let z : budget - done ≡ 0 = omega (arith, e) in
+        halts number.spent (rw z (spent (drop at bytes) some))
 
-    module _ (left : ran .done ≡ budget → ⊥) where
-      one-left : budget - ran .done ≡ suc (budget - (ran .done + 1))
+    module _ (left : done ≡ budget → ⊥) where
+      one-left : budget - done ≡ suc (budget - (done + 1))
       one-left =
-          let e : budget - ran .done ≡ budget - (ran .done + 1) + 1 = omega (arith, left, g .afford) in
-          e ∙ add-one (budget - (ran .done + 1))
+          let e : budget - done ≡ budget - (done + 1) + 1 = omega (arith, left, g .afford) in
+          e ∙ add-one (budget - (done + 1))
 
-      pub cut-short : length bytes - at < commandBytes → Comes (halted 7 ran)
-      cut-short h = halts 7 (rw one-left (short (drop at bytes) some (budget - (ran .done + 1)) (omega (arith, h, length-drop at bytes))))
+      pub cut-short : length bytes - at < commandBytes → Comes (reportOn number.cut done seen)
+      cut-short h = halts number.cut (rw one-left (short (drop at bytes) some (budget - (done + 1)) (omega (arith, h, length-drop at bytes))))
 
-      module _ (whole : commandBytes ≤ length bytes - at) {c : Command} (is : c ≡ commandAt (drop at bytes)) where
+      module _ (whole : commandBytes ≤ length bytes - at) {c : code.Command} (is : c ≡ commandAt (drop at bytes)) where
         nine : commandBytes ≤ length (drop at bytes)
         nine = omega (arith, whole, length-drop at bytes)
 
-        pub no-command : isKnown c ≡ false → Comes (halted 8 ran)
-        no-command e = halts 8 (rw one-left (unknown (drop at bytes) some nine (budget - (ran .done + 1)) (ap isKnown (sym is) ∙ e)))
+        pub no-command : isKnown c ≡ false → Comes (reportOn number.badCommand done seen)
+        no-command e = halts number.badCommand (rw one-left (unknown (drop at bytes) some nine (budget - (done + 1)) (ap isKnown (sym is) ∙ e)))
 
         -- after one more command
-        pub again : isKnown c ≡ true → length bytes ≤ bound → {r : Ran} {u : List ℕ} → r ≡ tally ran (outcome (picture t .size) (plain (picture t)) (asCommand c))
-            → u ≡ draw (next (picture t) (asCommand c)) → Going q t₀ bytes budget u (at + commandBytes) r
-        again e b {r} {u} f d =
-            let d₀ : Command = commandAt (drop at bytes) in
-            let o : Outcome = outcome (picture t .size) (plain (picture t)) (asCommand d₀) in
-            let N : Picture = next (picture t) (asCommand d₀) in
-            let f₀ : r ≡ tally ran o = f ∙ ap (λ (x : Command). tally ran (outcome (picture t .size) (plain (picture t)) (asCommand x))) is in
-            let u₀ : u ≡ draw N = d ∙ ap (λ (x : Command). draw (next (picture t) (asCommand x))) is in
-            let v = ready-right (g .ready) in
-            let p : Step q (step (picture t .size) (plain (picture t)) (asCommand d₀)) N =
-            subst (λ (n : ℕ). Step n (step (picture t .size) (plain (picture t)) (asCommand d₀)) N) (g .ready .size) (next-step (picture t) v (asCommand d₀)) in
-            let n : r .done ≡ ran .done + 1 = ap (λ (x : Ran). x .done) f₀ in
-            let k = goes ran (picture t) (budget - (ran .done + 1)) (drop at bytes) v some nine (ap isKnown (sym is) ∙ e) in
-            let h = subst (λ (m : ℕ). Same ran (picture t) m (drop at bytes) (reported (picture t₀) budget bytes) (nextAll (picture t₀) (carried budget bytes))) one-left (g .same) in
-            let pu : picture u ≡ N = drawn-picture p u₀ in
-            let bn : budget - r .done ≡ budget - (ran .done + 1) = ap (λ (m : ℕ). budget - m) n in
-            let dd : drop (at + commandBytes) bytes ≡ drop commandBytes (drop at bytes) = simp drop-drop in
+        pub again : isKnown c ≡ true → {k : ℕ} {u : List ℕ} → k ≡ caseOf (outcome (limitsOf (picture t)) (plain (picture t)) (asCommand c))
+            → u ≡ draw (next (picture t) (asCommand c)) → Going q t₀ bytes budget u (at + commandBytes) (done + 1) (set seen k (getD seen k 0 + 1))
+        again e {k} {u} f d =
+            let x : Command = asCommand c in
+            let cs : List Command = g .commands in
+            let b : ℕ = budget - (done + 1) in
+            let now = all-step P (g .right) cs in
+            let step = next-step (picture t) (ready-right (g .ready)) x in
+            let goes = goes-on (drop at bytes) some nine b (ap isKnown (sym is) ∙ e) in
+            let same : asCommand (commandAt (drop at bytes)) ≡ x = ap asCommand (sym is) in
+            let rest : drop commandBytes (drop at bytes) ≡ drop (at + commandBytes) bytes = simp drop-drop in
+            let o : outcome (limitsOf (picture t)) (plain (picture t)) x ≡ outcome (limitsOf P) (after (limitsOf P) (plain P) cs) x =
+            ap (λ (N : Picture). outcome (limitsOf N) (plain N) x) (g .drawn) ∙ (λ i. outcome (now .limits i) (now .plain i) x) in
+            let k₀ : caseOf (outcome (limitsOf P) (after (limitsOf P) (plain P) cs) x) ≡ k = sym (f ∙ ap caseOf o) in
             record {
+              commands = cs ++ (x ∷ []);
               inside = omega (arith, whole, g .inside);
-              afford = omega (arith, n, left, g .afford);
-              nines = omega (arith, n, g .nines);
-              within = subst (λ (x : Ran). Within (x .done) x) (sym f₀) (one-within ran o (omega (arith, g .nines, whole, b)) (g .within));
-              running = ap (λ (x : Ran). x .stop) f₀ ∙ g .running;
-              ready = drawn-ready p u₀;
-              same = (
-                (λ i. ranFrom (f₀ i) (pu i) (bn i) (dd i)) ∙ sym (k .0) ∙ h .0,
-                (λ i. nextAll (pu i) (carried (bn i) (dd i))) ∙ sym (k .1) ∙ h .1,
-              );
+              afford = omega (arith, left, g .afford);
+              nines = omega (arith, g .nines);
+              number = omega (arith, g .number, length-append cs (x ∷ []));
+              counted = subst (λ (j : ℕ). Seen (set seen j (getD seen j 0 + 1)) (cameTo P (cs ++ (x ∷ [])))) k₀
+                  (rw (outcomes-append (limitsOf P) (plain P) cs (x ∷ [])) (one-more (g .counted) (outcome (limitsOf P) (after (limitsOf P) (plain P) cs) x)));
+              right = g .right;
+              ready = subst (λ (n : ℕ). Ready n u) (g .ready .places) (drawn-ready step d);
+              drawn = drawn-picture step d ∙ ap (λ (N : Picture). next N x) (g .drawn) ∙ sym (nextAll-append P cs (x ∷ []));
+              stops = g .stops ∙ ap (λ (n : ℕ). stop n (drop at bytes)) one-left ∙ goes .0 ∙ ap (stop b) rest;
+              follow = g .follow ∙ ap (λ (n : ℕ). cs ++ carried n (drop at bytes)) one-left ∙ ap (λ (ds : List Command). cs ++ ds) (goes .1)
+                  ∙ (λ i. cs ++ (same i ∷ carried b (rest i))) ∙ sym (append-assoc cs (x ∷ []) (carried b (drop (at + commandBytes) bytes)));
             }

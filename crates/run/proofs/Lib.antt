@@ -1,4 +1,3 @@
 -- Laws of a run.
-pub mod Tally
-pub mod Runs
+pub mod Seen
 pub mod Going

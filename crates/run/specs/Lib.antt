@@ -1,3 +1,3 @@
--- What a run reads, counts and reports.
-pub mod Tally
+-- What a run counts and reports.
+pub mod Seen
 pub mod Runs

@@ -2,19 +2,18 @@
 use mathlib.Core.List.{List}
 use Prim.Native.Nat.{ℕ}
 use lib.ListN.{length}
-use Rattle.rules.specs.History.{Waiting}
+use Rattle.rules.specs.History.{Waiting, Limits}
 use Rattle.rules.specs.Commands.{Outcome}
 use Rattle.rules.specs.Run.{stop, carried, outcomes, total}
-use Rattle.rules.specs.Picture.{Picture, plain}
-use Rattle.run.specs.declared.Ran.{Ran}
+use Rattle.rules.specs.Picture.{Picture, limitsOf, plain}
+use Rattle.answers.specs.declared.Report.{Report}
 
--- the report with a budget b on the bytes s, where w waits in a window of q places
-abbrev pub reportOf : ℕ → Waiting → ℕ → List ℕ → Ran
-reportOf q w b s =
-    let os : List Outcome = outcomes q w (carried b s) in
+-- the totals of these outcomes, with a stop
+abbrev pub totalled : ℕ → List Outcome → Report
+totalled stop os =
     record {
-      stop = stop b s;
-      done = length (carried b s);
+      stop = stop;
+      done = length os;
       joined = total (λ k. k .joined) os;
       evicted = total (λ k. k .evicted) os;
       passed = total (λ k. k .passed) os;
@@ -23,9 +22,10 @@ reportOf q w b s =
       idle = total (λ k. k .idle) os;
     }
 
--- from a picture: what the commands before the stop come to, and the report
-abbrev pub outcomesFrom : Picture → ℕ → List ℕ → List Outcome
-outcomesFrom P b s = outcomes (P .size) (plain P) (carried b s)
+-- the report with a budget b on the bytes s, where w waits within limits
+abbrev pub reportOf : Limits → Waiting → ℕ → List ℕ → Report
+reportOf L w b s = totalled (stop b s) (outcomes L w (carried b s))
 
-abbrev pub reported : Picture → ℕ → List ℕ → Ran
-reported P b s = reportOf (P .size) (plain P) b s
+-- from a picture
+abbrev pub reported : Picture → ℕ → List ℕ → Report
+reported P b s = reportOf (limitsOf P) (plain P) b s

@@ -1,218 +1,127 @@
-// A run of commands on a ready table: what the bytes say, the stop rule's tests in their order, and the totals.
+// A run of commands on a ready table: the stop rule's tests in their order, and how many commands came to what.
 ghost use mathlib.Core.Path.{_≡_};
-ghost use mathlib.Core.Bool.{true};
-ghost use Prim.Native.Nat.{_+_, _≤_, _<_};
-ghost use lib.ListN.{length, drop};
+ghost use Prim.Native.Nat.{_≤_};
 ghost use Rattle.rules.specs.Spread.{IsSpread};
-ghost use Rattle.rules.specs.Picture.{plain};
+ghost use Rattle.rules.specs.Picture.{limitsOf, plain};
 ghost use Rattle.rules.specs.Commands as commands;
 ghost use Rattle.rules.specs.Run as rule;
 ghost use Rattle.rules.specs.Draw.{draw};
 ghost use Rattle.rules.specs.Sound.{picture};
 ghost use Rattle.rules.specs.Ready.{Ready};
-ghost use Rattle.run.specs.Tally.{asCommand, commandAt, isKnown, none, halted, tally, Within, talliedArrive, talliedSlide, talliedServe};
+ghost use Rattle.command.specs.Bytes.{asCommand};
+ghost use Rattle.run.specs.Seen.{largest, caseOf, arriveCase, slideCase, serveCase, joinedIn, reportOn};
 ghost use Rattle.run.specs.Runs.{reported};
-use steps::Arrived;
-use steps::Served;
-use steps::Slid;
+use answers::{Choice, Left, Report};
+use command::Command;
 
-// What a run reports: the number at which it stopped, how many commands it carried out, and the six totals.
-#[repr(C)]
-pub struct Ran {
-    pub stop: u32,
-    pub done: u64,
-    pub joined: u64,
-    pub evicted: u64,
-    pub passed: u64,
-    pub served: u64,
-    pub turned: u64,
-    pub idle: u64,
+// What a command came to: the place of its count among the six.
+struct Case {}
+
+impl Case {
+    const JOINED: usize = 0;
+
+    const EVICTED: usize = 1;
+
+    const TURNED: usize = 2;
+
+    const PASSED: usize = 3;
+
+    const SERVED: usize = 4;
+
+    const IDLE: usize = 5;
+
+    const ALL: usize = 6;
 }
 
-// What nine bytes say.
-pub struct Command {
-    pub kind: u8,
-    pub id: u32,
-    pub ticket: u32,
-}
-
-impl Command {
-    pub const BYTES: usize = 9;
-}
-
-fn wide(x: u8) -> u32
-    ensures { λ r. ⌜ (r ≡ x) × (r < 256) ⌝ }
+// What an arrive came to.
+fn of_arrive(c: Choice) -> usize
+    ensures { λ k. ⌜ k ≡ arriveCase c ⌝ }
 {
-    x as u32
+    match c {
+        Choice::Joined => Case::JOINED,
+        Choice::Evicted(_) => Case::EVICTED,
+        Choice::Turned => Case::TURNED,
+    }
 }
 
-// Four bytes, lowest first.
-fn number(s: &[u8], at: usize) -> u32
-    requires { ⌜ at + 4 ≤ length (now s) ⌝ }
-    ensures { λ r. ⌜ r ≡ rule.number (drop at (now (s .entry))) ⌝ }
+// What a slide came to.
+fn of_slide(l: Left) -> usize
+    ensures { λ k. ⌜ k ≡ slideCase l ⌝ }
 {
-    wide(s[at]) + 256 * wide(s[at + 1]) + 65536 * wide(s[at + 2]) + 16777216 * wide(s[at + 3])
+    match l {
+        Left::Nothing => Case::JOINED,
+        Left::One(_) => Case::PASSED,
+    }
 }
 
-// The nine bytes at a place.
-fn command_at(s: &[u8], at: usize) -> Command
-    requires { ⌜ at + rule.commandBytes ≤ length (now s) ⌝ }
-    ensures { λ r. ⌜ r ≡ commandAt (drop at (now (s .entry))) ⌝ }
+// What a serve came to: where nobody waits, the command was idle.
+fn of_serve(l: Left) -> usize
+    ensures { λ k. ⌜ k ≡ serveCase l ⌝ }
 {
-    Command {
-        kind: s[at],
-        id: number(s, at + 1),
-        ticket: number(s, at + 5),
+    match l {
+        Left::Nothing => Case::IDLE,
+        Left::One(_) => Case::SERVED,
     }
 }
 
-// Whether they are a command.
-fn known(c: Command) -> bool
-    ensures { λ b. ⌜ b ≡ isKnown c ⌝ }
-{
-    if c.kind == 1 {
-        return true;
-    }
-    if c.kind == 2 {
-        return true;
-    }
-    if c.kind != 3 {
-        return false;
-    }
-    if c.id != 0 {
-        return false;
-    }
-    c.ticket == 0
-}
-
-// The totals with what an arrive answered. On a ready table it is never refused.
-fn tally_arrive(mut ran: Ran, a: Arrived) -> Ran
-    requires { ⌜ Within (ran .done) ran ⌝ }
-    ensures { λ r. ⌜ r ≡ talliedArrive ran a ⌝ }
-{
-    ran.done += 1;
-    match a {
-        Arrived::Joined => {
-            ran.joined += 1;
-        }
-        Arrived::Evicted(_) => {
-            ran.joined += 1;
-            ran.evicted += 1;
-        }
-        Arrived::Turned => {
-            ran.turned += 1;
-        }
-        Arrived::Refused(_) => {}
-    }
-    ran
-}
-
-// With what a slide answered.
-fn tally_slide(mut ran: Ran, a: Slid) -> Ran
-    requires { ⌜ Within (ran .done) ran ⌝ }
-    ensures { λ r. ⌜ r ≡ talliedSlide ran a ⌝ }
-{
-    ran.done += 1;
-    match a {
-        Slid::Joined => {
-            ran.joined += 1;
-        }
-        Slid::Passed(_) => {
-            ran.joined += 1;
-            ran.passed += 1;
-        }
-        Slid::Refused(_) => {}
-    }
-    ran
-}
-
-// With what a serve answered: refused where nobody waits, and then the command was idle.
-fn tally_serve(mut ran: Ran, a: Served) -> Ran
-    requires { ⌜ Within (ran .done) ran ⌝ }
-    ensures { λ r. ⌜ r ≡ talliedServe ran a ⌝ }
-{
-    ran.done += 1;
-    match a {
-        Served::Left(_) => {
-            ran.served += 1;
-        }
-        Served::Refused(_) => {
-            ran.idle += 1;
-        }
-    }
-    ran
-}
-
-// Carries a command out, and counts what it came to.
-fn carry_out(t: &mut [u32], q: usize, s: &[u32; 1024], c: Command, ran: Ran) -> Ran
+// Carries a command out, and tells what it came to.
+fn carry_out(t: &mut [u32], q: usize, s: &[u32; 1024], c: Command) -> usize
     requires { ⌜ Ready q (now t) ⌝ }
     requires { ⌜ IsSpread (now s) ⌝ }
-    requires { ⌜ Within (ran .done) ran ⌝ }
-    ensures { λ r. ⌜ r ≡ tally ran (commands.outcome (picture (now (t .entry)) .size) (plain (picture (now (t .entry)))) (asCommand c)) ⌝ }
+    ensures { λ k. ⌜ k ≡ caseOf (commands.outcome (limitsOf (picture (now (t .entry)))) (plain (picture (now (t .entry)))) (asCommand c)) ⌝ }
     ensures { λ _. ⌜ now (t .exit) ≡ draw (commands.next (picture (now (t .entry))) (asCommand c)) ⌝ }
 {
-    if c.kind == 1 {
-        return tally_arrive(ran, steps::arrive(t, q, s, c.id, c.ticket));
+    if c.kind == Command::ARRIVE {
+        return of_arrive(steps::arrive(t, q, s, c.id, c.ticket));
     }
-    if c.kind == 2 {
-        return tally_slide(ran, steps::slide(t, q, s, c.id, c.ticket));
+    if c.kind == Command::SLIDE {
+        return of_slide(steps::slide(t, q, s, c.id, c.ticket));
     }
-    tally_serve(ran, steps::serve(t, q, s))
+    of_serve(steps::serve(t, q, s))
 }
 
-// The report before the first command.
-fn fresh() -> Ran
-    ensures { λ r. ⌜ r ≡ none ⌝ }
+// The report of a run that stops, having carried out so many commands, which came to what was seen.
+fn report(stop: u32, done: u64, seen: [u64; Case::ALL]) -> Report
+    requires { ⌜ joinedIn seen ≤ largest ⌝ }
+    ensures { λ r. ⌜ r ≡ reportOn stop done seen ⌝ }
 {
-    Ran {
-        stop: 0,
-        done: 0,
-        joined: 0,
-        evicted: 0,
-        passed: 0,
-        served: 0,
-        turned: 0,
-        idle: 0,
+    Report {
+        stop,
+        done,
+        joined: seen[Case::JOINED] + seen[Case::EVICTED] + seen[Case::PASSED],
+        evicted: seen[Case::EVICTED],
+        passed: seen[Case::PASSED],
+        served: seen[Case::SERVED],
+        turned: seen[Case::TURNED],
+        idle: seen[Case::IDLE],
     }
-}
-
-// The report of a run that stops.
-fn halt(mut ran: Ran, stop: u32) -> Ran
-    ensures { λ r. ⌜ r ≡ halted stop ran ⌝ }
-{
-    ran.stop = stop;
-    ran
-}
-
-// The report of a run that is refused with a number.
-pub fn refused(number: u32) -> Ran
-    ensures { λ r. ⌜ r ≡ halted number none ⌝ }
-{
-    halt(fresh(), number)
 }
 
 // Carries out commands until one of the four stops.
-pub fn run(t: &mut [u32], q: usize, s: &[u32; 1024], bytes: &[u8], budget: u64) -> Ran
+pub fn run(t: &mut [u32], q: usize, s: &[u32; 1024], bytes: &[u8], budget: u64) -> Report
     requires { ⌜ Ready q (now t) ⌝ }
     requires { ⌜ IsSpread (now s) ⌝ }
     ensures { λ r. ⌜ r ≡ reported (picture (now (t .entry))) budget (now (bytes .entry)) ⌝ }
     ensures { λ _. ⌜ now (t .exit) ≡ draw (rule.nextAll (picture (now (t .entry))) (rule.carried budget (now (bytes .entry)))) ⌝ }
 {
     let mut at: usize = 0;
-    let mut ran = fresh();
+    let mut done: u64 = 0;
+    let mut seen = [0u64; Case::ALL];
     while at < bytes.len() {
-        if ran.done == budget {
-            return halt(ran, 1);
+        if done == budget {
+            return report(Report::SPENT, done, seen);
         }
         if bytes.len() - at < Command::BYTES {
-            return halt(ran, 7);
+            return report(Report::CUT, done, seen);
         }
-        let c = command_at(bytes, at);
-        if !known(c) {
-            return halt(ran, 8);
+        let c = command::command_at(bytes, at);
+        if !command::known(c) {
+            return report(Report::BAD_COMMAND, done, seen);
         }
-        ran = carry_out(t, q, s, c, ran);
+        let k = carry_out(t, q, s, c);
+        seen[k] += 1;
+        done += 1;
         at += Command::BYTES;
     }
-    ran
+    report(Report::ENDED, done, seen)
 }

@@ -1,6 +1,7 @@
 // The spread table, and the bucket of an id.
 ghost use mathlib.Core.Path.{_≡_};
-ghost use Prim.Native.Nat.{_+_, _*_, _<_};
+ghost use Prim.Native.Nat.{_+_, _*_, _≤_, _<_};
+ghost use Rattle.table.specs.Kind as kind;
 ghost use Rattle.rules.specs.Spread.{spreadAt, bucket, IsSpread};
 
 mod numbers;
@@ -21,9 +22,10 @@ fn entry(s: &[u32; 1024], j: usize, byte: u32) -> u32
     s[256 * j + byte as usize]
 }
 
-// The bucket of an id among q. The sum of the four entries passes 32 bits.
+// The bucket of an id among q. The sum of the four entries passes 32 bits and half of it does not: the
+// remainder is that of the half, mended, since a division in 64 bits costs far more than one in 32.
 pub fn bucket_in(s: &[u32; 1024], id: u32, q: usize) -> usize
-    requires { ⌜ (0 < q) × IsSpread (now s) ⌝ }
+    requires { ⌜ (0 < q) × (q ≤ kind.largest) × IsSpread (now s) ⌝ }
     ensures { λ r. ⌜ r ≡ bucket q id ⌝ }
     ensures { λ r. ⌜ r < q ⌝ }
 {
@@ -31,5 +33,7 @@ pub fn bucket_in(s: &[u32; 1024], id: u32, q: usize) -> usize
     let b = entry(s, 1, id / 256 % 256) as usize;
     let c = entry(s, 2, id / 65_536 % 256) as usize;
     let d = entry(s, 3, id / 16_777_216 % 256) as usize;
-    (a + b + c + d) % q
+    let sum = a + b + c + d;
+    let x = 2 * ((sum / 2) as u32 % q as u32) as usize + sum % 2;
+    if x < q { x } else { x - q }
 }

@@ -1,45 +1,45 @@
 -- A request leaves a ready table: what the order's step and the window's ask, and that the table is then the drawing of the next picture.
-use mathlib.Core.List.{List, _∷_, map}
+use mathlib.Core.List.{List, [], _∷_, map}
 use mathlib.Core.Path.{_≡_, refl, sym, ap, ap₂, _∙_, subst}
+use mathlib.Core.Logic.{inl}
 use Prim.Native.Nat.{ℕ, _+_, _-_, _≤_, _<_}
 use native.Mathlib.Omega.{arith}
+use lib.ListN.{getD}
 use borrow.Author.Tests.{eq-eqb, ne-eqb}
 use Rattle.table.specs.Kind as kind
-use Rattle.table.specs.Regions.{Regions, words, regions, itemWord, clientWord, Writes, altered, at}
-use Rattle.table.proofs.Whole.{whole}
+use Rattle.table.specs.Regions.{Regions, words, regions, itemWord, clientWord, Writes, at}
+use Rattle.table.specs.Owners.{LookupWords, orderWords, windowWords, withLookup}
 use Rattle.table.proofs.Write.{then, draws}
-use Rattle.rules.specs.Rows.{In, Distinct}
+use Rattle.rules.specs.Rows.{In, Distinct, without}
 use Rattle.rules.specs.History as history
-use Rattle.rules.specs.Picture.{Item, Picture, itemRow, clientRow, clientId, itemRows, clientRows, countOf, idOf, requestOf, plain}
+use Rattle.rules.specs.Picture.{Item, Picture, itemRow, clientRow, clientId, itemRows, clientRows, ownRows, countOf, idOf, requestOf, limitsOf, plain}
 use Rattle.rules.specs.Steps.{withoutItem, leave}
+use Rattle.rules.specs.Parts.{Queued}
 use Rattle.rules.specs.Draw.{draw}
 use Rattle.rules.specs.Sound.{picture, Right, Holds}
 use Rattle.rules.specs.Ready.{Ready}
-use Rattle.rules.specs.Parts.{Queued}
 use Rattle.rules.proofs.Rows.{in-below, not-both}
-use Rattle.rules.proofs.Put.{Put, here, there, put-there, take-all, take-out}
-use Rattle.rules.proofs.Look.{find, look-in}
-use Rattle.rules.proofs.Right.{items-distinct, items-below, clients-below, counts-one}
+use Rattle.rules.proofs.Put.{Put, here, there, put-there, put-in, take-all, take-out}
+use Rattle.rules.proofs.Look.{find, own-put}
+use Rattle.rules.proofs.Right.{items-distinct, counts-one}
 use Rattle.rules.proofs.Settle.{Step, count-more}
 use Rattle.rules.proofs.Moves.{leave-last, leave-more, leave-step}
 use Rattle.rules.proofs.Moved.{counts-take}
 use Rattle.rules.proofs.Written.{written}
-use Rattle.rules.proofs.Ready.{ready-right, ready-sized}
-use Rattle.lookup.specs.View.{Kept}
-use Rattle.lookup.proofs.Ready.{ready-kept}
+use Rattle.rules.proofs.Ready.{ready-right, ready-sized, ready-ordered, ready-queued}
+use Rattle.lookup.specs.Promise.{Keeps, Kept, cut, ready-keeps}
 use Rattle.order.specs.Moves.{lowered, dismissed}
 use Rattle.order.specs.Asks as order
-use Rattle.order.specs.Asks.{Drawn, Leaves}
-use Rattle.order.proofs.Frames.{Beside, lowered-beside, lowered-book, dismissed-beside}
+use Rattle.order.specs.Asks.{Drawn, Dismisses}
 use Rattle.order.proofs.Moved.{lowered-ordered}
 use Rattle.window.specs.Steps.{left}
-use Rattle.window.specs.Shown.{Waits}
-use Rattle.window.proofs.Kept.{left-keeps}
+use Rattle.window.specs.Shown.{ItemOf}
 use Rattle.window.proofs.Left.{left-queued}
+use Rattle.answers.specs.Engine.{asStruct}
+use Rattle.questions.proofs.Kept.{client-low}
 use Rattle.steps.specs.Items.{itemIn}
-use Rattle.steps.specs.Replies.{asStruct}
-use Rattle.steps.proofs.Around.{Others, ready-others, ready-queued, queued-beside, others-hold}
-use Rattle.steps.proofs.Clients.{others-moved, others-left}
+use Rattle.steps.proofs.Others.{OthersIn, others-hold}
+use Rattle.steps.proofs.Clients.{whole-words, names, others-moved, others-left}
 
 -- the item in its row
 pub item-in : {i : Item} {v w : List Item} → Put i v w → Distinct (map itemRow w) → itemIn (i .row) w ≡ i
@@ -59,9 +59,6 @@ module _ {q : ℕ} {t : List ℕ} (y : Ready q t) (r : ℕ) (waits : In r (itemR
   abbrev it : Item
   it = itemIn r (P .window)
 
-  whole-words : t ≡ words q R
-  whole-words = whole q t (ready-sized y .long)
-
   abbrev others : List Item
   others = find itemRow r (P .window) waits .others
 
@@ -76,31 +73,35 @@ module _ {q : ℕ} {t : List ℕ} (y : Ready q t) (r : ℕ) (waits : In r (itemR
   row : it .row ≡ r
   row = ap itemRow is-one ∙ find itemRow r (P .window) waits .is
 
-  pub item-row : r < q
-  item-row = subst (λ (s : ℕ). r < s) (y .size) (in-below (P .size) (itemRows P) (items-below P (ready-right y)) r waits)
+  pub item-low : r < q
+  item-low = in-below q (itemRows P) (ready-queued y .window .below) r waits
 
   out : withoutItem (it .row) (P .window) ≡ others
   out = take-out itemRow (withoutItem (it .row)) (λ x l. refl) put (items-distinct P (ready-right y))
 
-  -- with the client's row c as the word has it
-  module _ (c : ℕ) (owner : itemWord t r kind.owner ≡ c) where
-    is-client : it .client ≡ c
-    is-client = sym (take-all _ put (ready-queued y .owner) .0) ∙ ap (λ (s : ℕ). R .item s kind.owner) row ∙ owner
+  -- the words name its client
+  pub owner-is : itemWord t r kind.owner ≡ it .client
+  owner-is = ap (λ (s : ℕ). R .item s kind.owner) (sym row) ∙ take-all _ put (ready-queued y .owner) .0
 
-    there-client : In c (clientRows P)
-    there-client = subst (λ (s : ℕ). In s (clientRows P)) is-client (take-all _ put (ready-right y .owners) .0)
+  pub next : Step (limitsOf P) (history.changed (idOf (P .clients) (it .client)) (map (requestOf (P .clients)) others) (plain P)) (leave P it)
+  next = leave-step P it others (ready-right y) put
 
-    pub client-row : c < q
-    client-row = subst (λ (s : ℕ). c < s) (y .size) (in-below (P .size) (clientRows P) (clients-below P (ready-right y)) c there-client)
+  pub next-places : leave P it .places ≡ q
+  next-places = ap (λ (L : history.Limits). L .places) (next .limits) ∙ y .places
 
-    counted : clientWord t q c kind.count ≡ n c
-    counted = ready-others y .ordered .counted c there-client
+  -- its client is in row c
+  module _ (c : ℕ) (is-client : it .client ≡ c) where
+    pub owner-there : In c (clientRows P)
+    owner-there = subst (λ (s : ℕ). In s (clientRows P)) is-client (take-all _ put (ready-right y .owners) .0)
+
+    pub counted : clientWord t q c kind.count ≡ n c
+    counted = ready-ordered y .counted c owner-there
 
     -- the request that it is
     pub item-told : {id ticket : ℕ} → id ≡ clientWord t q c kind.id → ticket ≡ itemWord t r kind.ticket → asStruct (history.request id ticket) ≡ asStruct (requestOf (P .clients) it)
     item-told i k =
-        let name : R .client c kind.id ≡ idOf (P .clients) c = look-in clientRow clientId (λ s. R .client s kind.id) (P .clients) (ready-others y .ids) c there-client in
-        ap₂ (λ (a b : ℕ). asStruct (history.request a b)) (i ∙ name ∙ ap (idOf (P .clients)) (sym is-client)) (k ∙ ap (λ (s : ℕ). R .item s kind.ticket) (sym row) ∙ take-all _ put (ready-queued y .ticket) .0)
+        ap₂ (λ (a b : ℕ). asStruct (history.request a b)) (i ∙ names y c owner-there ∙ ap (idOf (P .clients)) (sym is-client))
+        (k ∙ ap (λ (s : ℕ). R .item s kind.ticket) (sym row) ∙ take-all _ put (ready-queued y .ticket) .0)
 
     -- one fewer of its client's
     counts : countOf (withoutItem (it .row) (P .window)) ≡ at n c (n c - 1)
@@ -111,52 +112,51 @@ module _ {q : ℕ} {t : List ℕ} (y : Ready q t) (r : ℕ) (waits : In r (itemR
 
     asked : (F : ℕ → Type 0) → F (n c) → Drawn q t (order.Listed q c F)
     asked F h =
-        record { regs = R; drawn = whole-words; holds = record { rows = clientRows P; count = n; free = P .freeClients; ordered = ready-others y .ordered; there = there-client; counts = h } }
+        record { regs = R; drawn = whole-words y; holds = record { rows = clientRows P; count = n; free = P .freeClients; ordered = ready-ordered y; there = owner-there; counts = h } }
 
-    -- after the order's step, the window's: what it asks, and the whole
-    module _ {k : ℕ} {a : List ℕ} (f : Regions → Regions) (b : Beside R (f R)) (x : Writes q t a f k) where
-      queued : Queued q (f R) (P .window) (P .freeItems)
-      queued = queued-beside b (ready-queued y)
+    -- after the order's step to T, which has the waiting items of the table, the window's: what it asks, and the whole
+    module _ (T : Regions) (k : Queued q (windowWords T) (P .window) (P .freeItems)) where
+      still : {a : List ℕ} → a ≡ words q T → (F : ℕ → Type 0) → F (n c) → ItemOf q a c r F
+      still drawn F h =
+          record {
+            shown = record { regs = T; window = P .window; free = P .freeItems; drawn = drawn; queued = k };
+            its = put-in r (own-put c put is-client) (inl (sym row));
+            count = h;
+          }
 
-      pub still-waits : Waits q a r
-      still-waits = record { shown = record { regs = f R; window = P .window; free = P .freeItems; drawn = draws (ready-sized y) x; queued = queued }; there = waits }
-
-    leave-holds : (f : Regions → Regions) → Beside R (f R) → (Q : Picture) → Right Q → Q .size ≡ q → Q .window ≡ withoutItem (it .row) (P .window) → Q .freeItems ≡ it .row ∷ P .freeItems
-        → Others q (f R) Q → Holds (left r (f R)) Q
-    leave-holds f b Q v s w free o =
-        others-hold (left-keeps r (f R)) v s o (rw (w, free, row) (left-queued (ready-sized y .small) r waits (queued-beside b (ready-queued y))))
-
-    next : Step (P .size) (history.changed (idOf (P .clients) (it .client)) (map (requestOf (P .clients)) others) (plain P)) (leave P it)
-    next = leave-step P it others (ready-right y) put
+      holds : (N : Picture) → N .places ≡ q → N .window ≡ withoutItem (it .row) (P .window) → N .freeItems ≡ it .row ∷ P .freeItems → OthersIn q (left r T) N → Holds (left r T) N
+      holds N s w free o = others-hold (left r T) N s o (rw (w, free, row) (left-queued T (ready-sized y .small) r waits k))
 
     -- words that hold the next picture are its drawing
-    leave-drawn : {u : List ℕ} {f : Regions → Regions} {k : ℕ} → Writes q t u f k → Holds (f R) (leave P it) → u ≡ draw (leave P it)
-    leave-drawn w h = written (leave P it) (next .right) (next .size ∙ y .size) (ready-sized y) w h
+    leave-drawn : {u : List ℕ} {f : Regions → Regions} → Writes q t u f → Holds (f R) (leave P it) → u ≡ draw (leave P it)
+    leave-drawn w h = written (leave P it) (next .right) next-places (ready-sized y) w h
 
     -- its only one
-    module _ (only : clientWord t q c kind.count ≡ 1) where
+    module _ (only : n c ≡ 1) where
       none : countOf (withoutItem (it .row) (P .window)) c ≡ 0
-      none = omega (arith, fewer, sym counted ∙ only)
+      none = omega (arith, fewer, only)
 
       pub last-asks : Drawn q t (order.Listed q c (λ m. Unit {0})) × ((K : Kept q t) × In c (K .clients))
-      last-asks = (asked (λ m. Unit {0}) tt, (record { clients = clientRows P; chains = _; keeps = ready-kept y }, there-client))
+      last-asks = (asked (λ m. Unit {0}) tt, (record { clients = clientRows P; chains = _; keeps = ready-keeps y }, owner-there))
 
-      -- a is the table after the order's step
-      pub last-holds : {a : List ℕ} → a ≡ words q (dismissed q c R) → Leaves q t a c → Holds (left r (dismissed q c R)) (leave P it)
-      last-holds drawn l =
+      -- the lookup has the words L since
+      pub last-holds : (L : LookupWords) → Keeps q L (at (orderWords R .id) c 0) (without c (clientRows P)) (cut c (λ b. getD (P .chains) b [])) → Holds (left r (withLookup L (dismissed c R))) (leave P it)
+      last-holds L keeps =
           let is = leave-last P it (ap (countOf (withoutItem (it .row) (P .window))) is-client ∙ none) in
-          let o = others-left y c there-client drawn l (withoutItem (it .row) (P .window)) (it .row ∷ P .freeItems) (n c - 1) counts none in
-          rw is (leave-holds (dismissed q c) (dismissed-beside q c R) _ (subst Right is (next .right)) (y .size) refl refl (rw is-client o))
+          let o = others-left y c owner-there L keeps (withoutItem (it .row) (P .window)) (it .row ∷ P .freeItems) (n c - 1) counts none in
+          rw is (holds (withLookup L (dismissed c R)) (ready-queued y) _ (y .places) refl refl (rw is-client o))
 
-      pub last-left : {a u : List ℕ} → Writes q t a (dismissed q c) 12 → Leaves q t a c → Writes q a u (left r) 12 → (u ≡ draw (leave P it)) × (altered t u ≤ 24)
-      last-left x l z = (leave-drawn (then x z) (last-holds (draws (ready-sized y) x) l), omega (arith, then x z .few))
+      module _ {a : List ℕ} (x : Dismisses q t a c) where
+        pub last-still : ItemOf q a c r (λ m. m ≡ 1)
+        last-still = still (withLookup (x .lookup) (dismissed c R)) (ready-queued y) (draws (ready-sized y) (x .writes)) (λ m. m ≡ 1) only
+
+        pub last-left : {u : List ℕ} → Writes q a u (left r) → u ≡ draw (leave P it)
+        last-left z = leave-drawn (then (x .writes) z) (last-holds (x .lookup) (x .keeps R (whole-words y) (clientRows P) _ (ready-keeps y) owner-there))
 
     -- one of several
-    module _ (several : clientWord t q c kind.count ≡ 1 → ⊥) where
+    module _ (several : n c ≡ 1 → ⊥) where
       two : 2 ≤ n c
-      two =
-          let not-one : n c ≡ 1 → ⊥ = λ e. several (counted ∙ e) in
-          omega (arith, counts-one P (ready-right y) c there-client, not-one)
+      two = omega (arith, counts-one P (ready-right y) c owner-there, several)
 
       pub more-asks : Drawn q t (order.Listed q c (λ m. 2 ≤ m))
       more-asks = asked (λ m. 2 ≤ m) two
@@ -165,9 +165,13 @@ module _ {q : ℕ} {t : List ℕ} (y : Ready q t) (r : ℕ) (waits : In r (itemR
       more-holds =
           let some : countOf (withoutItem (it .row) (P .window)) c ≡ 0 → ⊥ = λ e. omega (arith, fewer, two, e) in
           let is = leave-more P it (λ e. some (sym (ap (countOf (withoutItem (it .row) (P .window))) is-client) ∙ e)) in
-          let o = others-moved y c there-client (lowered-beside c R) (lowered-book c R) (withoutItem (it .row) (P .window)) (it .row ∷ P .freeItems) (n c - 1) counts some
-          (lowered-ordered (ready-sized y .small) (ready-others y .ordered) c there-client two) in
-          rw is (leave-holds (lowered c) (lowered-beside c R) _ (subst Right is (next .right)) (y .size) refl refl (rw is-client o))
+          let o = others-moved y c owner-there (orderWords (lowered c R)) (λ s. refl) (withoutItem (it .row) (P .window)) (it .row ∷ P .freeItems) (n c - 1) counts some
+          (lowered-ordered (ready-sized y .small) R (ready-ordered y) c owner-there two) in
+          rw is (holds (lowered c R) (ready-queued y) _ (y .places) refl refl (rw is-client o))
 
-      pub more-left : {a u : List ℕ} → Writes q t a (lowered c) 11 → Writes q a u (left r) 12 → (u ≡ draw (leave P it)) × (altered t u ≤ 23)
-      more-left x z = (leave-drawn (then x z) more-holds, omega (arith, then x z .few))
+      module _ {a : List ℕ} (x : Writes q t a (lowered c)) where
+        pub more-still : ItemOf q a c r (λ m. 2 ≤ m)
+        more-still = still (lowered c R) (ready-queued y) (draws (ready-sized y) x) (λ m. 2 ≤ m) two
+
+        pub more-left : {u : List ℕ} → Writes q a u (left r) → u ≡ draw (leave P it)
+        more-left z = leave-drawn (then x z) more-holds

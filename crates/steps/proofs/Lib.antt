@@ -1,9 +1,5 @@
--- Laws of the steps on ready tables.
-pub mod Around
+-- Laws of the steps.
+pub mod Others
 pub mod Clients
 pub mod Joining
 pub mod Leaving
-pub mod Reading
-pub mod Choices
-pub mod Still
-pub mod Few

@@ -1,3 +1,2 @@
 -- What the steps speak of besides the rules.
 pub mod Items
-pub mod Replies

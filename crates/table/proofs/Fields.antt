@@ -1,5 +1,5 @@
 -- A fact of each number below n, and so of every word of the header or of a row, from the same of each word by its name.
-use Prim.Native.Nat.{ℕ, zero, suc, _+_, _-_, _<_}
+use Prim.Native.Nat.{ℕ, zero, suc, _+_, _<_}
 use mathlib.Core.Path.{_≡_, subst}
 use native.Mathlib.Nat.{not-suc-le-zero, le-of-suc-le-suc}
 use native.Mathlib.Decide.{decLt}
@@ -26,10 +26,6 @@ module _ (F : ℕ → Type 0) where
   pub count-fields : F kind.lightEnd → F kind.heavyEnd → (f : ℕ) → f < kind.countWords → F f
   count-fields a b = each kind.countWords F (a, (b, tt))
 
-  pub header-fields : F kind.markAt → F kind.sizeAt → F kind.requestsAt → F kind.clientsAt → F kind.frontAt → F kind.backAt → F kind.lightestAt → F kind.heaviestAt
-      → F kind.freeItemAt → F kind.freeClientAt → ((z : ℕ) → z < kind.zeros → F (kind.zerosAt + z)) → (f : ℕ) → f < kind.headerWords → F f
-  header-fields a b c d e g h i j k zeros f l =
-      elim (decLt f kind.zerosAt) [
-        | yes s ↦ each kind.zerosAt F (a, (b, (c, (d, (e, (g, (h, (i, (j, (k, tt)))))))))) f s
-        | no n ↦ let past : kind.zerosAt + (f - kind.zerosAt) ≡ f = omega arith in subst F past (zeros (f - kind.zerosAt) (omega arith))
-      ]
+  pub header-fields : F kind.markAt → F kind.placesAt → F kind.requestsAt → F kind.clientsAt → F kind.frontAt → F kind.backAt → F kind.lightestAt → F kind.heaviestAt
+      → F kind.freeItemAt → F kind.freeClientAt → Each kind.zeros (λ z. F (kind.zerosAt + z)) → (f : ℕ) → f < kind.headerWords → F f
+  header-fields a b c d e g h i j k zeros = each kind.headerWords F (a, (b, (c, (d, (e, (g, (h, (i, (j, (k, zeros))))))))))

@@ -46,53 +46,45 @@ altered-trans (x ∷ xs) (y ∷ ys) (z ∷ zs) e = omega (arith, step x y z, alt
 
 -- writers
 
-pub nothing : (q : ℕ) (t : List ℕ) → Writes q t t (λ R. R) 0
-nothing q t = record { drawn = λ R e. e; sized = refl; few = omega (arith, altered-same t) }
+pub nothing : (q : ℕ) (t : List ℕ) → Writes q t t (λ R. R)
+nothing q t = record { drawn = λ R e. e; sized = refl }
 
-pub then : {q : ℕ} {a b c : List ℕ} {f g : Regions → Regions} {k m : ℕ} → Writes q a b f k → Writes q b c g m → Writes q a c (λ R. g (f R)) (k + m)
-then {q} {a} {b} {c} {f} {g} x y =
-    record {
-      drawn = λ R e. y .drawn (f R) (x .drawn R e);
-      sized = y .sized ∙ x .sized;
-      few = omega (arith, altered-trans a b c (x .sized), x .few, y .few);
-    }
+pub then : {q : ℕ} {a b c : List ℕ} {f g : Regions → Regions} → Writes q a b f → Writes q b c g → Writes q a c (λ R. g (f R))
+then {f = f} x y = record { drawn = λ R e. y .drawn (f R) (x .drawn R e); sized = y .sized ∙ x .sized }
 
--- a larger bound; another step that draws the same; another step that is the same where the table is drawn from R
-pub more : {q : ℕ} {a b : List ℕ} {f : Regions → Regions} {k : ℕ} (m : ℕ) → k ≤ m → Writes q a b f k → Writes q a b f m
-more m h x = record { drawn = x .drawn; sized = x .sized; few = omega (arith, x .few) }
+-- another step that draws the same; another step that is the same where the table is drawn from R
+pub drawn-so : {q : ℕ} {a b : List ℕ} {f g : Regions → Regions} → Writes q a b f → ((R : Regions) → words q (f R) ≡ words q (g R)) → Writes q a b g
+drawn-so x h = record { drawn = λ R e. x .drawn R e ∙ h R; sized = x .sized }
 
-pub drawn-so : {q : ℕ} {a b : List ℕ} {f g : Regions → Regions} {k : ℕ} → Writes q a b f k → ((R : Regions) → words q (f R) ≡ words q (g R)) → Writes q a b g k
-drawn-so x h = record { drawn = λ R e. x .drawn R e ∙ h R; sized = x .sized; few = x .few }
+pub so-read : {q : ℕ} {a b : List ℕ} {f g : Regions → Regions} → Writes q a b f → ((R : Regions) → a ≡ words q R → f R ≡ g R) → Writes q a b g
+so-read {q} x h = record { drawn = λ R e. x .drawn R e ∙ ap (words q) (h R e); sized = x .sized }
 
-pub so-read : {q : ℕ} {a b : List ℕ} {f g : Regions → Regions} {k : ℕ} → Writes q a b f k → ((R : Regions) → a ≡ words q R → f R ≡ g R) → Writes q a b g k
-so-read {q} x h = record { drawn = λ R e. x .drawn R e ∙ ap (words q) (h R e); sized = x .sized; few = x .few }
-
-pub sized-after : {q : ℕ} {a b : List ℕ} {f : Regions → Regions} {k : ℕ} → Sized q a → Writes q a b f k → Sized q b
+pub sized-after : {q : ℕ} {a b : List ℕ} {f : Regions → Regions} → Sized q a → Writes q a b f → Sized q b
 sized-after s w = record { small = s .small; long = w .sized ∙ s .long }
 
 -- the regions that a writer draws, from those that the words show
-pub draws : {q : ℕ} {a b : List ℕ} {f : Regions → Regions} {k : ℕ} → Sized q a → Writes q a b f k → b ≡ words q (f (regions q a))
+pub draws : {q : ℕ} {a b : List ℕ} {f : Regions → Regions} → Sized q a → Writes q a b f → b ≡ words q (f (regions q a))
 draws {q} {a} s w = w .drawn (regions q a) (whole q a (s .long))
 
 -- one word
 
-pub one : (q : ℕ) (t : List ℕ) (i v : ℕ) (f : Regions → Regions) → ((R : Regions) → set (words q R) i v ≡ words q (f R)) → Writes q t (set t i v) f 1
-one q t i v f h = record { drawn = λ R e. ap (λ (l : List ℕ). set l i v) e ∙ h R; sized = length-set t i v; few = altered-set t i v }
+pub one : (q : ℕ) (t : List ℕ) (i v : ℕ) (f : Regions → Regions) → ((R : Regions) → set (words q R) i v ≡ words q (f R)) → Writes q t (set t i v) f
+one q t i v f h = record { drawn = λ R e. ap (λ (l : List ℕ). set l i v) e ∙ h R; sized = length-set t i v }
 
 module _ (q : ℕ) (t : List ℕ) where
-  pub write-header : (f v : ℕ) → f < kind.headerWords → Writes q t (set t f v) (setHeader f v) 1
+  pub write-header : (f v : ℕ) → f < kind.headerWords → Writes q t (set t f v) (setHeader f v)
   write-header f v h = one q t f v (setHeader f v) (λ R. set-header q R f v h)
 
-  pub write-item : (r f v : ℕ) → r < q → f < kind.itemWords → Writes q t (set t (kind.itemAt r f) v) (setItem r f v) 1
+  pub write-item : (r f v : ℕ) → r < q → f < kind.itemWords → Writes q t (set t (kind.itemAt r f) v) (setItem r f v)
   write-item r f v h hf = one q t (kind.itemAt r f) v (setItem r f v) (λ R. set-item q R r f v h hf)
 
-  pub write-client : (r f v : ℕ) → r < q → f < kind.clientWords → Writes q t (set t (kind.clientAt q r f) v) (setClient r f v) 1
+  pub write-client : (r f v : ℕ) → r < q → f < kind.clientWords → Writes q t (set t (kind.clientAt q r f) v) (setClient r f v)
   write-client r f v h hf = one q t (kind.clientAt q r f) v (setClient r f v) (λ R. set-client q R r f v h hf)
 
-  pub write-count : (r f v : ℕ) → r < q → f < kind.countWords → Writes q t (set t (kind.countAt q r f) v) (setCount r f v) 1
+  pub write-count : (r f v : ℕ) → r < q → f < kind.countWords → Writes q t (set t (kind.countAt q r f) v) (setCount r f v)
   write-count r f v h hf = one q t (kind.countAt q r f) v (setCount r f v) (λ R. set-count q R r f v h hf)
 
-  pub write-bucket : (b v : ℕ) → b < q → Writes q t (set t (kind.bucketAt q b) v) (setBucket b v) 1
+  pub write-bucket : (b v : ℕ) → b < q → Writes q t (set t (kind.bucketAt q b) v) (setBucket b v)
   write-bucket b v h = one q t (kind.bucketAt q b) v (setBucket b v) (λ R. set-bucket q R b v h)
 
 -- what the code read out of the table is what the regions hold

@@ -67,8 +67,8 @@ bucketAt q b = bucketsFrom q + b
 abbrev pub markAt : ℕ
 markAt = 0
 
-abbrev pub sizeAt : ℕ
-sizeAt = 1
+abbrev pub placesAt : ℕ
+placesAt = 1
 
 abbrev pub requestsAt : ℕ
 requestsAt = 2

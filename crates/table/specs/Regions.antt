@@ -44,6 +44,10 @@ countWord t q r f = getD t (kind.countAt q r f) 0
 abbrev pub bucketWord : List ℕ → ℕ → ℕ → ℕ
 bucketWord t q b = getD t (kind.bucketAt q b) 0
 
+-- the ticket that an item row holds
+abbrev pub ticketWord : List ℕ → ℕ → ℕ
+ticketWord t r = itemWord t r kind.ticket
+
 -- the regions that a list of words draws
 abbrev pub regions : ℕ → List ℕ → Regions
 regions q t =
@@ -72,6 +76,9 @@ abbrev pub setItem : ℕ → ℕ → ℕ → Regions → Regions
 setItem r f v R =
     record { header = R .header; item = upd (R .item) r f v; client = R .client; count = R .count; bucket = R .bucket }
 
+abbrev pub setTicket : ℕ → ℕ → Regions → Regions
+setTicket r v = setItem r kind.ticket v
+
 abbrev pub setClient : ℕ → ℕ → ℕ → Regions → Regions
 setClient r f v R =
     record { header = R .header; item = R .item; client = upd (R .client) r f v; count = R .count; bucket = R .bucket }
@@ -96,8 +103,7 @@ altered [] (y ∷ ys) = 0
 altered (x ∷ xs) [] = 0
 altered (x ∷ xs) (y ∷ ys) = cond (eqb x y) 0 1 + altered xs ys
 
--- what a writer does: whatever regions the table was drawn from, it is then drawn from what `step` makes of them; at most k words differ
-pub record Writes (q : ℕ) (before after : List ℕ) (step : Regions → Regions) (k : ℕ) : Type 0 where
+-- what a writer does: whatever regions the table was drawn from, it is then drawn from what `step` makes of them
+pub record Writes (q : ℕ) (before after : List ℕ) (step : Regions → Regions) : Type 0 where
   pub drawn : (R : Regions) → before ≡ words q R → after ≡ words q (step R)
   pub sized : length after ≡ length before
-  pub few : altered before after ≤ k

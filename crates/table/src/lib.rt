@@ -1,13 +1,16 @@
-// The linked table's kind, and its words by row and field.
+// The linked table's kind, and its words by row and field: no other crate works out where a word stands.
 // The functions on a table rest on its size (`Sized`), which the calls offered outside have tested.
 ghost use mathlib.Core.Path.{_≡_};
 ghost use Prim.Native.Nat.{_<_, _≤_};
 ghost use lib.ListN.{getD};
 ghost use Rattle.table.specs.Kind as kind;
-ghost use Rattle.table.specs.Regions.{Sized, Writes, itemWord, clientWord, countWord, bucketWord, setHeader, setItem, setClient, setCount, setBucket};
+ghost use Rattle.table.specs.Regions.{Sized, Writes, itemWord, clientWord, countWord, bucketWord, ticketWord, setHeader, setItem, setClient, setCount, setBucket, setTicket};
 
 // The table whose requests and clients are linked both ways.
 pub struct LinkedTable {}
+
+// A ticket, as an item row holds it.
+pub type Ticket = u32;
 
 impl LinkedTable {
     pub const MARK: u32 = 0x484C_0001;
@@ -17,25 +20,25 @@ impl LinkedTable {
     pub const NONE: u32 = 4_294_967_295;
 
     // Words of the header and of a row of each kind; a bucket is one word.
-    pub const HEADER: usize = 16;
+    pub const HEADER_WORDS: usize = 16;
 
-    pub const ITEM: usize = 6;
+    pub const ITEM_WORDS: usize = 6;
 
-    pub const CLIENT: usize = 7;
+    pub const CLIENT_WORDS: usize = 7;
 
-    pub const COUNT: usize = 2;
+    pub const COUNT_WORDS: usize = 2;
 
     // Words for each place of the window: of the regions before the count rows, before the buckets, and of all.
-    pub const TO_COUNTS: usize = Self::ITEM + Self::CLIENT;
+    const TO_COUNTS: usize = Self::ITEM_WORDS + Self::CLIENT_WORDS;
 
-    pub const TO_BUCKETS: usize = Self::TO_COUNTS + Self::COUNT;
+    const TO_BUCKETS: usize = Self::TO_COUNTS + Self::COUNT_WORDS;
 
-    pub const PLACE: usize = Self::TO_BUCKETS + 1;
+    pub const PLACE_WORDS: usize = Self::TO_BUCKETS + 1;
 
     // Words of the header.
     pub const MARK_AT: usize = 0;
 
-    pub const SIZE_AT: usize = 1;
+    pub const PLACES_AT: usize = 1;
 
     pub const REQUESTS_AT: usize = 2;
 
@@ -71,7 +74,7 @@ impl LinkedTable {
     // Words of a client row.
     pub const ID: usize = 0;
 
-    pub const WAITING: usize = 1;
+    pub const COUNT: usize = 1;
 
     pub const LIGHTER: usize = 2;
 
@@ -100,7 +103,37 @@ impl LinkedTable {
         requires { ⌜ q ≤ kind.largest ⌝ }
         ensures { λ r. ⌜ r ≡ kind.size q ⌝ }
     {
-        Self::HEADER + Self::PLACE * q
+        Self::HEADER_WORDS + Self::PLACE_WORDS * q
+    }
+
+    // Where the client rows and the count rows begin.
+    pub fn clients_from(q: usize) -> usize
+        requires { ⌜ q ≤ kind.largest ⌝ }
+        ensures { λ r. ⌜ r ≡ kind.clientsFrom q ⌝ }
+    {
+        Self::HEADER_WORDS + Self::ITEM_WORDS * q
+    }
+
+    pub fn counts_from(q: usize) -> usize
+        requires { ⌜ q ≤ kind.largest ⌝ }
+        ensures { λ r. ⌜ r ≡ kind.countsFrom q ⌝ }
+    {
+        Self::HEADER_WORDS + Self::TO_COUNTS * q
+    }
+
+    // Where a row stands.
+    pub fn item_at(r: u32) -> usize
+        requires { ⌜ r < kind.largest ⌝ }
+        ensures { λ a. ⌜ a ≡ kind.itemAt r 0 ⌝ }
+    {
+        Self::HEADER_WORDS + Self::ITEM_WORDS * (r as usize)
+    }
+
+    pub fn client_at(q: usize, r: u32) -> usize
+        requires { ⌜ (q ≤ kind.largest) × (r < q) ⌝ }
+        ensures { λ a. ⌜ a ≡ kind.clientAt q r 0 ⌝ }
+    {
+        Self::clients_from(q) + Self::CLIENT_WORDS * (r as usize)
     }
 }
 
@@ -116,7 +149,7 @@ pub fn header(t: &[u32], q: usize, f: usize) -> u32
 pub fn set_header(t: &mut [u32], q: usize, f: usize, v: u32)
     requires { ⌜ Sized q (now t) ⌝ }
     requires { ⌜ f < kind.headerWords ⌝ }
-    ensures { λ _. ⌜ Writes q (now (t .entry)) (now (t .exit)) (setHeader f v) 1 ⌝ }
+    ensures { λ _. ⌜ Writes q (now (t .entry)) (now (t .exit)) (setHeader f v) ⌝ }
     ensures { λ _. ⌜ Sized q (now (t .exit)) ⌝ }
 {
     t[f] = v;
@@ -128,16 +161,34 @@ pub fn item(t: &[u32], q: usize, r: u32, f: usize) -> u32
     requires { ⌜ (r < q) × (f < kind.itemWords) ⌝ }
     ensures { λ x. ⌜ x ≡ itemWord (now (t .entry)) r f ⌝ }
 {
-    t[LinkedTable::HEADER + LinkedTable::ITEM * (r as usize) + f]
+    t[LinkedTable::HEADER_WORDS + LinkedTable::ITEM_WORDS * (r as usize) + f]
 }
 
 pub fn set_item(t: &mut [u32], q: usize, r: u32, f: usize, v: u32)
     requires { ⌜ Sized q (now t) ⌝ }
     requires { ⌜ (r < q) × (f < kind.itemWords) ⌝ }
-    ensures { λ _. ⌜ Writes q (now (t .entry)) (now (t .exit)) (setItem r f v) 1 ⌝ }
+    ensures { λ _. ⌜ Writes q (now (t .entry)) (now (t .exit)) (setItem r f v) ⌝ }
     ensures { λ _. ⌜ Sized q (now (t .exit)) ⌝ }
 {
-    t[LinkedTable::HEADER + LinkedTable::ITEM * (r as usize) + f] = v;
+    t[LinkedTable::HEADER_WORDS + LinkedTable::ITEM_WORDS * (r as usize) + f] = v;
+}
+
+// The ticket of an item row.
+pub fn ticket(t: &[u32], q: usize, r: u32) -> Ticket
+    requires { ⌜ Sized q (now t) ⌝ }
+    requires { ⌜ r < q ⌝ }
+    ensures { λ x. ⌜ x ≡ ticketWord (now (t .entry)) r ⌝ }
+{
+    item(t, q, r, LinkedTable::TICKET)
+}
+
+pub fn set_ticket(t: &mut [u32], q: usize, r: u32, v: Ticket)
+    requires { ⌜ Sized q (now t) ⌝ }
+    requires { ⌜ r < q ⌝ }
+    ensures { λ _. ⌜ Writes q (now (t .entry)) (now (t .exit)) (setTicket r v) ⌝ }
+    ensures { λ _. ⌜ Sized q (now (t .exit)) ⌝ }
+{
+    set_item(t, q, r, LinkedTable::TICKET, v);
 }
 
 // A word of a client row.
@@ -146,16 +197,22 @@ pub fn client(t: &[u32], q: usize, r: u32, f: usize) -> u32
     requires { ⌜ (r < q) × (f < kind.clientWords) ⌝ }
     ensures { λ x. ⌜ x ≡ clientWord (now (t .entry)) q r f ⌝ }
 {
-    t[LinkedTable::HEADER + LinkedTable::ITEM * q + LinkedTable::CLIENT * (r as usize) + f]
+    t[LinkedTable::HEADER_WORDS
+        + LinkedTable::ITEM_WORDS * q
+        + LinkedTable::CLIENT_WORDS * (r as usize)
+        + f]
 }
 
 pub fn set_client(t: &mut [u32], q: usize, r: u32, f: usize, v: u32)
     requires { ⌜ Sized q (now t) ⌝ }
     requires { ⌜ (r < q) × (f < kind.clientWords) ⌝ }
-    ensures { λ _. ⌜ Writes q (now (t .entry)) (now (t .exit)) (setClient r f v) 1 ⌝ }
+    ensures { λ _. ⌜ Writes q (now (t .entry)) (now (t .exit)) (setClient r f v) ⌝ }
     ensures { λ _. ⌜ Sized q (now (t .exit)) ⌝ }
 {
-    t[LinkedTable::HEADER + LinkedTable::ITEM * q + LinkedTable::CLIENT * (r as usize) + f] = v;
+    t[LinkedTable::HEADER_WORDS
+        + LinkedTable::ITEM_WORDS * q
+        + LinkedTable::CLIENT_WORDS * (r as usize)
+        + f] = v;
 }
 
 // A word of count row k: the ends of the group of count k + 1.
@@ -164,16 +221,17 @@ pub fn count_end(t: &[u32], q: usize, k: usize, f: usize) -> u32
     requires { ⌜ (k < q) × (f < kind.countWords) ⌝ }
     ensures { λ x. ⌜ x ≡ countWord (now (t .entry)) q k f ⌝ }
 {
-    t[LinkedTable::HEADER + LinkedTable::TO_COUNTS * q + LinkedTable::COUNT * k + f]
+    t[LinkedTable::HEADER_WORDS + LinkedTable::TO_COUNTS * q + LinkedTable::COUNT_WORDS * k + f]
 }
 
 pub fn set_count_end(t: &mut [u32], q: usize, k: usize, f: usize, v: u32)
     requires { ⌜ Sized q (now t) ⌝ }
     requires { ⌜ (k < q) × (f < kind.countWords) ⌝ }
-    ensures { λ _. ⌜ Writes q (now (t .entry)) (now (t .exit)) (setCount k f v) 1 ⌝ }
+    ensures { λ _. ⌜ Writes q (now (t .entry)) (now (t .exit)) (setCount k f v) ⌝ }
     ensures { λ _. ⌜ Sized q (now (t .exit)) ⌝ }
 {
-    t[LinkedTable::HEADER + LinkedTable::TO_COUNTS * q + LinkedTable::COUNT * k + f] = v;
+    t[LinkedTable::HEADER_WORDS + LinkedTable::TO_COUNTS * q + LinkedTable::COUNT_WORDS * k + f] =
+        v;
 }
 
 // The first row of a bucket.
@@ -182,14 +240,14 @@ pub fn bucket(t: &[u32], q: usize, b: usize) -> u32
     requires { ⌜ b < q ⌝ }
     ensures { λ x. ⌜ x ≡ bucketWord (now (t .entry)) q b ⌝ }
 {
-    t[LinkedTable::HEADER + LinkedTable::TO_BUCKETS * q + b]
+    t[LinkedTable::HEADER_WORDS + LinkedTable::TO_BUCKETS * q + b]
 }
 
 pub fn set_bucket(t: &mut [u32], q: usize, b: usize, v: u32)
     requires { ⌜ Sized q (now t) ⌝ }
     requires { ⌜ b < q ⌝ }
-    ensures { λ _. ⌜ Writes q (now (t .entry)) (now (t .exit)) (setBucket b v) 1 ⌝ }
+    ensures { λ _. ⌜ Writes q (now (t .entry)) (now (t .exit)) (setBucket b v) ⌝ }
     ensures { λ _. ⌜ Sized q (now (t .exit)) ⌝ }
 {
-    t[LinkedTable::HEADER + LinkedTable::TO_BUCKETS * q + b] = v;
+    t[LinkedTable::HEADER_WORDS + LinkedTable::TO_BUCKETS * q + b] = v;
 }

@@ -11,7 +11,7 @@ use text::next;
 use text::number;
 
 // Room for tables of 16 places.
-const WORDS: usize = LinkedTable::HEADER + LinkedTable::PLACE * 16;
+const WORDS: usize = LinkedTable::HEADER_WORDS + LinkedTable::PLACE_WORDS * 16;
 
 // A number as a word: 0 where it is too large for one.
 fn word(n: u64) -> u32 {

@@ -1,30 +1,28 @@
--- The whole of soundness from its parts: the clients' order, the lookup, the items, and the header's own words.
-use mathlib.Core.List.{List, [], _∷_, _++_, map}
-use mathlib.Core.Path.{_≡_, refl, sym, ap, subst}
-use mathlib.Core.Logic.{⊎-elim, inl, inr}
-use Prim.Native.Nat.{ℕ, zero, suc, _+_, _≤_, _<_}
+-- The whole of soundness from its parts: the header's own words, the clients' order, the lookup, the items.
+use mathlib.Core.List.{List, [], _∷_, map}
+use mathlib.Core.Path.{_≡_, refl, sym, ap, _∙_}
+use mathlib.Core.Logic.{inl, inr}
+use Prim.Native.Nat.{ℕ, zero, suc, _≤_, _<_}
 use native.Mathlib.Nat.{not-suc-le-zero, le-of-suc-le-suc}
-use native.Mathlib.Omega.{arith}
-use lib.Dec.{lit<}
 use lib.ListN.{length, getD}
-use Rattle.table.specs.Kind as kind
-use Rattle.table.specs.Regions.{Regions, regions, Sized}
+use Rattle.table.specs.Regions.{regions, Sized}
+use Rattle.table.specs.Owners.{fixedWords, orderWords}
 use Rattle.table.proofs.Whole.{whole}
-use Rattle.rules.specs.Rows.{In, NotIn, All, Distinct}
+use Rattle.rules.specs.Rows.{headOr, lastOr, In, All}
 use Rattle.rules.specs.Spread.{bucket}
 use Rattle.rules.specs.Picture.{Client, Picture, client, clientRow, clientId, clientRows, countOf, concat}
-use Rattle.rules.specs.Sound.{build, picture, Right, Sound}
+use Rattle.rules.specs.Parts.{Ordered, Present}
+use Rattle.rules.specs.Sound.{build, picture, fixedOf, Right, Sound}
 use Rattle.rules.specs.Ready.{Ready}
-use Rattle.rules.specs.Parts.{Ordered, Queued}
-use Rattle.rules.proofs.Rows.{in-all, in-either, fills, other, rising-least}
-use Rattle.rules.proofs.Parts.{ordered-so, hold-ordered, hold-queued, parts-hold}
+use Rattle.rules.proofs.Rows.{in-all, in-below, below-right, apart-right}
+use Rattle.rules.proofs.Parts.{ordered-so}
 use Rattle.rules.proofs.Clients.{bucket-below}
-use Rattle.rules.proofs.Ready.{ready-right, ready-holds}
+use Rattle.rules.proofs.Held.{free-owns}
+use Rattle.rules.proofs.Ready.{ready-right, ready-ordered, ready-queued, ready-holds, parts-hold}
 use Rattle.order_check.specs.Clients.{Clients}
-use Rattle.items_check.specs.Items.{Known, Items}
-use Rattle.lookup.specs.Book.{idOf}
-use Rattle.lookup.specs.Check.{Waits}
-use Rattle.lookup.specs.View.{Keeps, kept-stands, kept-apart, kept-nobody, kept-ids, kept-columns}
+use Rattle.order_check.proofs.Present.{ordered-present}
+use Rattle.items_check.specs.Items.{Items}
+use Rattle.lookup.specs.Promise.{KeepsIn, keeps-chains, keeps-unchained, keeps-stands, keeps-apart, keeps-nobody, keeps-ids}
 
 -- f of 0, 1, .. at one of them
 build-at : {A : Type 0} (n : ℕ) (f : ℕ → A) (d : A) (b : ℕ) → b < n → getD (build n f) b d ≡ f b
@@ -45,37 +43,35 @@ module _ (id : ℕ → ℕ) where
   named-rows [] = refl
   named-rows (r ∷ rows) = ap (λ (l : List ℕ). r ∷ l) (named-rows rows)
 
+  named-ids : (rows : List ℕ) → map clientId (named rows) ≡ map id rows
+  named-ids [] = refl
+  named-ids (r ∷ rows) = ap (λ (l : List ℕ). id r ∷ l) (named-ids rows)
+
   named-all : (F : ℕ → ℕ → Type 0) (rows : List ℕ) → ((r : ℕ) → In r rows → F r (id r)) → All (λ c. F (c .row) (c .id)) (named rows)
   named-all F [] h = tt
   named-all F (r ∷ rows) h = (h r (inl refl), named-all F rows (λ s i. h s (inr i)))
 
-  named-apart : (x : ℕ) (rows : List ℕ) → ((s : ℕ) → In s rows → id s ≡ x → ⊥) → NotIn x (map clientId (named rows))
-  named-apart x [] h = tt
-  named-apart x (r ∷ rows) h = (λ e. h r (inl refl) (sym e), named-apart x rows (λ s i. h s (inr i)))
+module _ {q : ℕ} {t : List ℕ} (z : Sized q t) (least : 1 ≤ q) (k : Clients q (regions q t)) (C : ℕ → List ℕ) (l : KeepsIn q (regions q t) (k .rows) C) (m : Items q (regions q t) (k .rows)) where
+  abbrev id : ℕ → ℕ
+  id = orderWords (regions q t) .id
 
-  named-ids : (rows : List ℕ) → Distinct rows → ((r s : ℕ) → In r rows → In s rows → id r ≡ id s → r ≡ s) → Distinct (map clientId (named rows))
-  named-ids [] d h = tt
-  named-ids (r ∷ rows) d h =
-      (named-apart (id r) rows (λ s i e. other r s rows (d .0) i (h r s (inl refl) (inr i) (sym e))), named-ids rows (d .1) (λ x y i j. h x y (inr i) (inr j)))
-
-module _ {q : ℕ} {t : List ℕ} (z : Sized q t) (least : 1 ≤ q) (k : Clients q (regions q t)) (C : ℕ → List ℕ) (l : Keeps q t (k .rows) C) (m : Items q (regions q t) (k .rows)) where
   abbrev P : Picture
   P =
       record {
-        size = q;
+        places = q;
         window = m .w;
-        clients = named (idOf q t) (k .rows);
+        clients = named id (k .rows);
         freeItems = m .free;
         freeClients = k .free;
         chains = build q C;
       }
 
   rows-are : clientRows P ≡ k .rows
-  rows-are = named-rows (idOf q t) (k .rows)
+  rows-are = named-rows id (k .rows)
 
   -- the counts are those of the items
-  order : Ordered q (regions q t) (k .rows) (countOf (m .w)) (k .free)
-  order = ordered-so (λ r. regions q t .client r kind.count) (countOf (m .w)) (λ r i. sym (m .counts r i)) (k .ordered)
+  order : Ordered q (orderWords (regions q t)) (k .rows) (countOf (m .w)) (k .free)
+  order = ordered-so (orderWords (regions q t) .count) (countOf (m .w)) (λ r i. sym (m .counts r i)) (k .ordered)
 
   right : Right P
   right =
@@ -86,68 +82,54 @@ module _ {q : ℕ} {t : List ℕ} (z : Sized q t) (least : 1 ≤ q) (k : Clients
         clients = rw rows-are (order .each);
         owners = rw rows-are (m .owners);
         counts = rw rows-are (order .rising);
-        ids = named-ids (idOf q t) (k .rows) (order .linked .distinct) (kept-ids l);
+        ids = rw (named-ids id (k .rows)) (keeps-ids l);
         buckets = build-length q C;
-        stands = named-all (idOf q t) (λ r id. In r (getD (build q C) (bucket q id) [])) (k .rows)
-            (λ r i. rw (build-at q C [] (bucket q (idOf q t r)) (bucket-below q (idOf q t r) least)) (kept-stands l r i));
-        apart = kept-apart l;
-        nobody = rw rows-are (in-all _ (concat (build q C)) (kept-nobody l));
+        stands = named-all id (λ r i. In r (getD (build q C) (bucket q i) [])) (k .rows)
+            (λ r i. rw (build-at q C [] (bucket q (id r)) (bucket-below q (id r) least)) (keeps-stands l r i));
+        apart = keeps-apart l (z .small);
+        nobody = rw rows-are (in-all _ (concat (build q C)) (keeps-nobody l));
       }
 
+  -- a free client row is no client's, so it stands in no chain
+  free-below : (r : ℕ) → In r (k .free) → r < q
+  free-below = in-below q (k .free) (below-right q (k .rows) (k .free) (order .each .below))
+
   -- so are the words
-  pub parts-sound : getD t kind.markAt 0 ≡ kind.mark → getD t kind.sizeAt 0 ≡ q → ((f : ℕ) → f < kind.zeros → getD t (kind.zerosAt + f) 0 ≡ 0) → Sound t
-  parts-sound mark size zeros =
+  pub parts-sound : fixedWords (regions q t) ≡ fixedOf q → Sound t
+  parts-sound fixed =
       record {
         picture = P;
         right = right;
         shows = record {
           regs = regions q t;
           drawn = whole q t (z .long);
-          holds = parts-hold P right (regions q t) (rw rows-are order) (m .queued) mark size zeros
-              (named-all (idOf q t) (λ r id. regions q t .client r kind.id ≡ id) (k .rows) (λ r i. refl))
-              (λ b h. rw (build-at q C [] b h) (kept-columns l b h))
-              (λ r i. k .blank r i kind.nextInBucket (lit< tt) (λ e. omega arith));
+          holds = parts-hold (regions q t) P refl
+              (fixed, m .queued, rw rows-are order, λ b h. rw (build-at q C [] b h) (keeps-chains l b h))
+              (named-all id (λ r i. id r ≡ i) (k .rows) (λ r i. refl))
+              (λ r i. keeps-unchained l r (free-below r i) (apart-right r (k .rows) (k .free) (order .each .distinct) i));
         };
       }
 
--- what the later parts of the check rest on: the clients are the rows that have a count
-module _ {q : ℕ} {R : Regions} (k : Clients q R) where
-  waits : (r : ℕ) → In r (k .rows) → R .client r kind.count ≡ 0 → ⊥
-  waits r i e = omega (arith, rising-least 1 (λ x. R .client x kind.count) (k .rows) (k .ordered .rising) r i, e)
-
-  others : (r : ℕ) → r < q → (R .client r kind.count ≡ 0 → ⊥) → In r (k .rows)
-  others r l n =
-      ⊎-elim (λ i. i) (λ i. absurd (n (k .blank r i kind.count (lit< tt) (λ e. omega arith))))
-      (in-either r (k .rows) (k .free) (fills q (k .rows ++ k .free) (k .ordered .each) r l))
-
-  -- a row without a count is free, so its words are 0
-  idle : (r : ℕ) → r < q → R .client r kind.count ≡ 0 → In r (k .free)
-  idle r l e =
-      ⊎-elim (λ i. absurd (waits r i e)) (λ i. i) (in-either r (k .rows) (k .free) (fills q (k .rows ++ k .free) (k .ordered .each) r l))
-
-  pub clients-known : Known q R (k .rows)
-  clients-known =
-      record {
-        distinct = k .ordered .linked .distinct;
-        below = k .ordered .linked .below;
-        counted = waits;
-        others = others;
-        blank = λ c l e. let i = idle c l e in (k .blank c i kind.oldest (lit< tt) (λ z. omega arith), k .blank c i kind.newest (lit< tt) (λ z. omega arith));
-      }
-
-pub clients-wait : {q : ℕ} {t : List ℕ} (k : Clients q (regions q t)) → Waits q t (k .rows)
-clients-wait k = record { distinct = k .ordered .linked .distinct; below = k .ordered .linked .below; counted = waits k; others = others k }
-
 -- and back: a sound table has the parts
 module _ {q : ℕ} {t : List ℕ} (y : Ready q t) where
+  clients-ordered : Ordered q (orderWords (regions q t)) (clientRows (picture t)) (orderWords (regions q t) .count) (picture t .freeClients)
+  clients-ordered = ordered-so (countOf (picture t .window)) (orderWords (regions q t) .count) (λ r i. sym (ready-ordered y .counted r i)) (ready-ordered y)
+
+  pub ready-present : Present q (regions q t) (clientRows (picture t))
+  ready-present =
+      ordered-present clients-ordered
+      (λ r i.
+      let none = free-owns (picture t) (ready-right y) r i in
+      let own = ready-queued y .own r (in-below q (picture t .freeClients) (below-right q (clientRows (picture t)) (picture t .freeClients) (clients-ordered .each .below)) r i) in
+      (own .oldest ∙ ap (headOr 0) none, own .newest ∙ ap (lastOr 0) none, ready-holds y .unchained r i))
+
   pub ready-clients : Clients q (regions q t)
   ready-clients =
       record {
         rows = clientRows (picture t);
         free = picture t .freeClients;
-        ordered = ordered-so (countOf (picture t .window)) (λ r. regions q t .client r kind.count) (λ r i. sym (ready-holds y .counted r i))
-            (subst (λ (n : ℕ). Ordered n (regions q t) (clientRows (picture t)) (countOf (picture t .window)) (picture t .freeClients)) (y .size) (hold-ordered (picture t) (ready-right y) (regions q t) (ready-holds y)));
-        blank = ready-holds y .freeClient;
+        ordered = clients-ordered;
+        present = ready-present;
       }
 
   pub ready-items : Items q (regions q t) (clientRows (picture t))
@@ -155,19 +137,10 @@ module _ {q : ℕ} {t : List ℕ} (y : Ready q t) where
       record {
         w = picture t .window;
         free = picture t .freeItems;
-        queued = subst (λ (n : ℕ). Queued n (regions q t) (picture t .window) (picture t .freeItems)) (y .size) (hold-queued (picture t) (ready-right y) (regions q t) (ready-holds y));
+        queued = ready-queued y;
         owners = ready-right y .owners;
-        counts = λ c i. sym (ready-holds y .counted c i);
+        counts = λ c i. sym (ready-ordered y .counted c i);
       }
 
-  pub ready-number : length (clientRows (picture t)) ≡ getD t kind.clientsAt 0
-  unfolding ready-clients
-  ready-number = sym (ready-clients .ordered .number)
-
-  pub ready-waits : Waits q t (clientRows (picture t))
-  unfolding ready-clients
-  ready-waits = clients-wait ready-clients
-
-  pub ready-known : Known q (regions q t) (clientRows (picture t))
-  unfolding ready-clients
-  ready-known = clients-known ready-clients
+  pub ready-number : length (clientRows (picture t)) ≡ orderWords (regions q t) .clients
+  ready-number = sym (ready-ordered y .number)

@@ -8,8 +8,10 @@ ghost use Rattle.table.specs.Regions.{Sized};
 ghost use Rattle.rules.specs.Tells.{Tells};
 ghost use Rattle.rules.specs.Spread.{IsSpread};
 ghost use Rattle.rules.specs.Sound.{sound};
-ghost use Rattle.rules.specs.Verdict.{verdict};
+ghost use Rattle.answers.specs.Offered.{openedOn};
 ghost use Rattle.verdict.specs.Zeros.{Zeros};
+use answers::Opened;
+use answers::Refusal;
 use table::LinkedTable;
 
 // The header's zeros.
@@ -18,7 +20,7 @@ fn zeros(t: &[u32], q: usize) -> bool
     ensures { λ ok. ⌜ Tells ok (Zeros kind.headerWords (now (t .entry))) ⌝ }
 {
     let mut f = LinkedTable::ZEROS_AT;
-    while f < LinkedTable::HEADER {
+    while f < LinkedTable::HEADER_WORDS {
         if t[f] != 0 {
             return false;
         }
@@ -31,7 +33,7 @@ fn zeros(t: &[u32], q: usize) -> bool
 fn whole(t: &[u32], q: usize, s: &[u32; 1024]) -> bool
     requires { ⌜ Sized q (now t) ⌝ }
     requires { ⌜ (1 ≤ q) × IsSpread (now s) ⌝ }
-    requires { ⌜ (getD (now t) kind.markAt 0 ≡ kind.mark) × (getD (now t) kind.sizeAt 0 ≡ q) ⌝ }
+    requires { ⌜ (getD (now t) kind.markAt 0 ≡ kind.mark) × (getD (now t) kind.placesAt 0 ≡ q) ⌝ }
     ensures { λ ok. ⌜ ok ≡ sound (now (t .entry)) ⌝ }
 {
     if !zeros(t, q) {
@@ -47,24 +49,27 @@ fn whole(t: &[u32], q: usize, s: &[u32; 1024]) -> bool
     items_check::check_items(t, q)
 }
 
-// The refusal number of every call but lay-out, 0 for none.
-pub fn of(t: &[u32], s: &[u32; 1024]) -> u32
+// What the words lent hold: a sound table, by its own Q, or why every call but lay-out is refused.
+pub fn of(t: &[u32], s: &[u32; 1024]) -> Opened
     requires { ⌜ IsSpread (now s) ⌝ }
-    ensures { λ r. ⌜ r ≡ verdict (now (t .entry)) ⌝ }
+    ensures { λ o. ⌜ o ≡ openedOn (now (t .entry)) ⌝ }
 {
-    if t.len() < LinkedTable::HEADER {
-        return 2;
+    if t.len() < LinkedTable::HEADER_WORDS {
+        return Opened::Refused(Refusal::of(Refusal::TOO_SHORT));
     }
     if t[LinkedTable::MARK_AT] != LinkedTable::MARK {
-        return 3;
+        return Opened::Refused(Refusal::of(Refusal::UNSOUND));
     }
-    let q = t[LinkedTable::SIZE_AT] as usize;
+    let q = t[LinkedTable::PLACES_AT] as usize;
     if !LinkedTable::in_range(q) {
-        return 3;
+        return Opened::Refused(Refusal::of(Refusal::UNSOUND));
     }
     let need = LinkedTable::size(q);
     if t.len() < need {
-        return 2;
+        return Opened::Refused(Refusal::of(Refusal::TOO_SHORT));
     }
-    if whole(&t[..need], q, s) { 0 } else { 3 }
+    if !whole(&t[..need], q, s) {
+        return Opened::Refused(Refusal::of(Refusal::UNSOUND));
+    }
+    Opened::Table(q)
 }

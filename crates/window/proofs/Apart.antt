@@ -6,19 +6,15 @@ use Prim.Native.Nat.{ℕ, _≤_}
 use native.Mathlib.Omega.{arith}
 use Rattle.table.specs.Kind as kind
 use Rattle.table.specs.Regions.{Regions, at}
+use Rattle.table.specs.Owners.{WindowWords, windowWords}
 use Rattle.table.proofs.Draw.{at-same, at-other}
 use Rattle.rules.specs.Rows.{In, NotIn, All}
 use Rattle.rules.specs.Picture.{Item, itemRow, ownRows}
 use Rattle.rules.specs.Parts.{Queued}
 use Rattle.rules.proofs.Rows.{other, apart-right, below-right, in-below, all-both, all-snoc, notin-all}
 use Rattle.rules.proofs.Look.{own-in, owner-own}
-use Rattle.links.specs.Pools.{freeItems, Free}
 
-module _ {q : ℕ} (hq : q ≤ kind.largest) {R : Regions} {w : List Item} {free : List ℕ} (k : Queued q R w free) where
-  -- the free rows, as a chain of blank rows
-  pub spare : Free freeItems R free
-  spare = record { chain = k .chain; zeros = k .idle }
-
+module _ {q : ℕ} (hq : q ≤ kind.largest) {W : WindowWords} {w : List Item} {free : List ℕ} (k : Queued q W w free) where
   -- a free row is not none, and does not wait
   pub free-apart : (x y : ℕ) → In x free → In y (kind.none ∷ map itemRow w) → x ≡ y → ⊥
   free-apart x y i j e =
@@ -31,6 +27,14 @@ module _ {q : ℕ} (hq : q ≤ kind.largest) {R : Regions} {w : List Item} {free
   -- an item has one owner
   pub owners-apart : (c d : ℕ) → (c ≡ d → ⊥) → (x : ℕ) → In x (ownRows d w) → In x (ownRows c w) → ⊥
   owners-apart c d n x i j = n (sym (owner-own c x w (k .window .distinct) j) ∙ owner-own d x w (k .window .distinct) i)
+
+-- a row whose words are 0, but for its chain's
+abbrev pub Blank : WindowWords → ℕ → Type 0
+Blank W r = (W .owner r ≡ 0) × (W .ticket r ≡ 0) × (W .earlier r ≡ 0) × (W .ownEarlier r ≡ 0) × (W .ownLater r ≡ 0)
+
+pub blank-so : (R S : Regions) (x : ℕ) → ((f : ℕ) → R .item x f ≡ S .item x f) → Blank (windowWords R) x → Blank (windowWords S) x
+blank-so R S x e (owner, ticket, earlier, ownEarlier, ownLater) =
+    (sym (e kind.owner) ∙ owner, sym (e kind.ticket) ∙ ticket, sym (e kind.earlier) ∙ earlier, sym (e kind.ownEarlier) ∙ ownEarlier, sym (e kind.ownLater) ∙ ownLater)
 
 -- a column of the items, altered at a row that none of them has
 pub all-at : (o : ℕ → ℕ) (value : Item → ℕ) (r v : ℕ) (w : List Item) → NotIn r (map itemRow w) → All (λ i. o (i .row) ≡ value i) w

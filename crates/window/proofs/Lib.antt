@@ -5,8 +5,8 @@ pub mod Owner
 pub mod Apart
 pub mod Joined
 pub mod Left
-pub mod Kept
 pub mod Read
 pub mod Leaving
-pub mod Writes
+pub mod Few
 pub mod Shown
+pub mod Writes

@@ -5,7 +5,7 @@ use Prim.Native.Nat.{ℕ, _≤_, _<_}
 use native.Mathlib.Nat.{not-suc-le-zero}
 use lib.ListN.{length}
 use Rattle.table.specs.Kind as kind
-use Rattle.table.specs.Regions.{Regions}
+use Rattle.table.specs.Owners.{WindowWords}
 use Rattle.rules.specs.Rows.{lastOr}
 use Rattle.rules.specs.Picture.{Item, ownRows, countOf}
 use Rattle.rules.specs.Steps.{newestItem, frontItem}
@@ -14,14 +14,14 @@ use Rattle.rules.proofs.Rows.{last-any}
 use Rattle.rules.proofs.Columns.{first-is}
 use Rattle.rules.proofs.Leaving.{newest-row}
 
-module _ {q : ℕ} {R : Regions} {w : List Item} {free : List ℕ} (k : Queued q R w free) where
+module _ {q : ℕ} {W : WindowWords} {w : List Item} {free : List ℕ} (k : Queued q W w free) where
   module _ (c : ℕ) (hc : c < q) (some : 1 ≤ countOf w c) where
-    pub newest-own : R .client c kind.newest ≡ lastOr kind.none (ownRows c w)
+    pub newest-own : W .newest c ≡ lastOr kind.none (ownRows c w)
     newest-own = k .own c hc .newest ∙ last-any 0 kind.none (ownRows c w) some
 
-    pub newest-is : (d : Item) → R .client c kind.newest ≡ newestItem c d w .row
+    pub newest-is : (d : Item) → W .newest c ≡ newestItem c d w .row
     newest-is d = k .own c hc .newest ∙ last-any 0 (d .row) (ownRows c w) some ∙ sym (newest-row c d w)
 
-pub front-is : {q : ℕ} {R : Regions} {w : List Item} {free : List ℕ} → 1 ≤ length w → Queued q R w free → R .header kind.frontAt ≡ frontItem w .row
+pub front-is : {q : ℕ} {W : WindowWords} {w : List Item} {free : List ℕ} → 1 ≤ length w → Queued q W w free → W .front ≡ frontItem w .row
 front-is {w = []} h k = absurd (not-suc-le-zero h)
 front-is {w = i ∷ w} h k = first-is (k .window)

@@ -13,7 +13,7 @@ size-requires : tie.Need-size-requires
 size-requires c κs = range-decides _ .0 (sym (c .before .in-range .ensures) ∙ c .if1 .taken) .1
 
 returns : tie.Need-returns
-returns c = c .size .ensures ∙ words-in _ (sym (c .before .before .in-range .ensures) ∙ c .before .if1 .taken)
+returns c = c .places .ensures ∙ words-in _ (sym (c .before .before .in-range .ensures) ∙ c .before .if1 .taken)
 
 returns-2 : tie.Need-returns-2
 returns-2 c = words-out (c .before .before .args .q) (sym (c .before .in-range .ensures) ∙ c .if1 .left)

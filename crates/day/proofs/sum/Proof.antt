@@ -1,5 +1,5 @@
 -- `day::sum` meets its contract. Assumes nothing.
-use Rattle.day.specs.Totals.{largest}
+use Rattle.day.specs.Day.{largest}
 use borrow.Author.Needs.{needs}
 use borrow.Author.Tests.{le-leb, lt-leb}
 use native.Mathlib.Omega.{arith}

@@ -1,8 +1,9 @@
--- Each test that fails rules out one part of `Whole`; the last one tells the rest.
+-- The three parts that the check looks for, and what they mean together (`checked`).
+use borrow.Author.Needs.{needs}
+use mathlib.Core.Logic.{⊎-elim}
 use native.Mathlib.Omega.{arith}
 use Rattle.rules.proofs.Tells.{tells-no, tells-so, refuted, told}
-use Rattle.items_check.proofs.Means.{checked-by}
-use borrow.Author.Needs.{needs}
+use Rattle.items_check.proofs.Means.{checked}
 use Rattle.items_check.proofs.check_items.Statement.{statement}
 use Rattle.items_check.proofs.check_items.Tie as tie
 
@@ -12,25 +13,35 @@ header-requires c κs = search needs
 cast-n : tie.Need-cast-n
 cast-n c = search needs
 
-returns : tie.Need-returns
-returns c = checked-by _ _ _ (search needs) (tells-no (λ w. omega (arith, w .few)))
-
 window-requires : tie.Need-window-requires
 window-requires c κs = search needs
 
+returns : tie.Need-returns
+returns c =
+    checked (search needs)
+    (tells-no (λ p. ⊎-elim (λ w. omega (arith, p .few)) (λ w. refuted (w .1 .ensures) (w .2 .taken) (p .window)) (c .if1 .came)))
+
+header-requires-2 : tie.Need-header-requires-2
+header-requires-2 c κs = search needs
+
+free-rows-requires : tie.Need-free-rows-requires
+free-rows-requires c κs = search needs
+
 returns-2 : tie.Need-returns-2
-returns-2 c = checked-by _ _ _ (search needs) (tells-no (λ w. refuted (c .before .window .ensures) (c .if2 .taken) (w .window)))
-
-free-requires : tie.Need-free-requires
-free-requires c κs = search needs
-
-returns-3 : tie.Need-returns-3
-returns-3 c =
-    let n = c .before .before .before .before .header .ensures in
-    checked-by _ _ _ (search needs)
-    (tells-so (λ f. record { few = omega arith; window = told (c .before .before .window .ensures) (c .before .if2 .left); free = rw n at f }, λ w. rw n (w .free)) (c .free .ensures))
+returns-2 c =
+    let f = c .before .before in
+    let free = rw (c .before .header2 .ensures, f .before .before .before .header .ensures) at (c .free-rows .ensures) in
+    checked (search needs)
+    (tells-so (λ i. record { few = search needs; window = told (f .before .window .ensures) (f .if2 .left); free = i }, λ p. p .free) free)
 
 pub check-items-spec : {M : Type 1} → statement M
 check-items-spec =
     tie.close
-    (tie.spec header-requires cast-n returns window-requires returns-2 free-requires returns-3)
+    (tie.spec
+    header-requires
+    cast-n
+    window-requires
+    returns
+    header-requires-2
+    free-rows-requires
+    returns-2)

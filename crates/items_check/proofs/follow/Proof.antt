@@ -1,19 +1,20 @@
 -- Before each turn what is left to show of the window and the own lists is what was to be shown at first; the notes keep their lengths.
 use borrow.Author.Needs.{needs}
 use mathlib.Core.Path.{_≡_, refl}
-use mathlib.Core.Logic.{_↔_, Iff·trans, Iff·symm}
+use mathlib.Core.Logic.{_↔_}
 use native.Mathlib.Omega.{arith}
 use lib.ListN.{length, length-set}
 use Rattle.table.specs.Kind as kind
 use Rattle.table.specs.Regions.{regions}
-use Rattle.items_check.specs.Check.{column, Rest, Window}
+use Rattle.free_check.specs.Listed.{Listed}
+use Rattle.items_check.specs.Check.{column, Follows, Window}
 use Rattle.rules.proofs.Tells.{tells-no, tells-so, refuted, told}
-use Rattle.items_check.proofs.WindowTurns.{first, done, start, turn-noted}
+use Rattle.items_check.proofs.WindowTurns.{turn, stop, start, turn-noted}
 use Rattle.items_check.proofs.follow.Statement.{statement}
 use Rattle.items_check.proofs.follow.Tie as tie
 
 abbrev Inv-loop : tie.InvT-loop
-Inv-loop t q met₀ seen₀ rows left₀ at₀ prev₀ met seen left at prev = (length met ≡ length met₀) × (length seen ≡ length seen₀) × (Rest q (regions q t) left at prev (column met) (column seen) ↔ Window q (regions q t))
+Inv-loop t q met₀ seen₀ rows left₀ at₀ prev₀ met seen left at prev = (length met ≡ length met₀) × (length seen ≡ length seen₀) × (Listed left (Follows q (regions q t) at prev (column met) (column seen)) ↔ Window q (regions q t))
 
 abbrev μ-loop : tie.MeasureT-loop
 μ-loop t q met₀ seen₀ rows left₀ at₀ prev₀ met seen left at prev = left
@@ -37,7 +38,7 @@ same-length-2 : tie.Need-same-length-2 Inv-loop μ-loop
 same-length-2 c = search needs
 
 returns : tie.Need-returns Inv-loop μ-loop
-returns c = tells-no (λ w. let f = first _ _ _ _ _ _ _ (c .before .loop-test .taken) (c .before .before .loop .inv .2 .1 w) _ refl in omega (arith, f .row))
+returns c = tells-no (λ w. let f = turn _ _ _ _ _ _ _ (c .before .before .loop .inv .2) (c .before .loop-test .taken) _ refl .1 w .0 in omega (arith, f .row))
 
 item-requires : tie.Need-item-requires Inv-loop μ-loop
 item-requires c κs = search needs
@@ -50,7 +51,8 @@ same-length-4 c = search needs
 
 returns-2 : tie.Need-returns-2 Inv-loop μ-loop
 returns-2 c =
-    tells-no (λ w. let f = first _ _ _ _ _ _ _ (c .before .before .before .loop-test .taken) (c .before .before .before .before .loop .inv .2 .1 w) _ (c .before .item .ensures) in omega (arith, f .client))
+    let t = c .before .before .before in
+    tells-no (λ w. let f = turn _ _ _ _ _ _ _ (t .before .loop .inv .2) (t .loop-test .taken) _ (c .before .item .ensures) .1 w .0 in omega (arith, f .client))
 
 cast-i : tie.Need-cast-i Inv-loop μ-loop
 cast-i c = search needs
@@ -79,7 +81,7 @@ same-length-6 c = search needs
 returns-3 : tie.Need-returns-3 Inv-loop μ-loop
 returns-3 c =
     let i = c .before .before .before .before .before in
-    tells-no (λ w. refuted (c .before .joins .ensures) (c .if3 .taken) (first _ _ _ _ _ _ _ (i .before .before .loop-test .taken) (i .before .before .before .loop .inv .2 .1 w) _ (i .item .ensures) .joins))
+    tells-no (λ w. refuted (c .before .joins .ensures) (c .if3 .taken) (turn _ _ _ _ _ _ _ (i .before .before .before .loop .inv .2) (i .before .before .loop-test .taken) _ (i .item .ensures) .1 w .0 .joins))
 
 mul-met : tie.Need-mul-met Inv-loop μ-loop
 mul-met c = search needs
@@ -129,7 +131,9 @@ same-length-8 : tie.Need-same-length-8 Inv-loop μ-loop
 same-length-8 c = search needs
 
 returns-4 : tie.Need-returns-4 Inv-loop μ-loop
-returns-4 c = tells-so (Iff·trans (Iff·symm (done _ _ _ _ _ _ _ (c .before .before .before .loop-test .left))) (c .before .before .before .before .loop .inv .2)) (c .finished .ensures)
+returns-4 c =
+    let t = c .before .before .before in
+    tells-so (stop _ _ _ _ _ _ _ (t .before .loop .inv .2) (t .loop-test .left)) (c .finished .ensures)
 
 pub follow-spec : {M : Type 1} → statement M
 follow-spec =

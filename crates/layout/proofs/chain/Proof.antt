@@ -2,7 +2,6 @@
 use mathlib.Core.Path.{_≡_, _∙_}
 use Prim.Native.Nat.{_≤_, _-_}
 use native.Mathlib.Omega.{arith}
-use lib.ListN.{length-set}
 use borrow.Author.Needs.{needs}
 use Rattle.table.specs.Regions.{Sized, words}
 use Rattle.layout.specs.Laid.{chained}
@@ -19,44 +18,17 @@ abbrev μ-loop : tie.MeasureT-loop
 loop-holds : tie.Need-loop-holds Inv-loop μ-loop
 loop-holds c = (omega arith, search needs, c .before .pre .1 ∙ chain-none _)
 
+cast-loop : tie.Need-cast-loop Inv-loop μ-loop
+cast-loop c = search needs
+
 next-free-requires : tie.Need-next-free-requires Inv-loop μ-loop
 next-free-requires c κs = search needs
 
-mul-t : tie.Need-mul-t Inv-loop μ-loop
-mul-t c = search needs
+set-item-requires : tie.Need-set-item-requires Inv-loop μ-loop
+set-item-requires c κs = search needs
 
-add-t : tie.Need-add-t Inv-loop μ-loop
-add-t c = search needs
-
-add-t-2 : tie.Need-add-t-2 Inv-loop μ-loop
-add-t-2 c = search needs
-
-mul-t-2 : tie.Need-mul-t-2 Inv-loop μ-loop
-mul-t-2 c = search needs
-
-slice-write-t : tie.Need-slice-write-t Inv-loop μ-loop
-slice-write-t c = search needs
-
-mul-t-3 : tie.Need-mul-t-3 Inv-loop μ-loop
-mul-t-3 c = search needs
-
-add-t-3 : tie.Need-add-t-3 Inv-loop μ-loop
-add-t-3 c = search needs
-
-mul-t-4 : tie.Need-mul-t-4 Inv-loop μ-loop
-mul-t-4 c = search needs
-
-add-t-4 : tie.Need-add-t-4 Inv-loop μ-loop
-add-t-4 c = search needs
-
-add-t-5 : tie.Need-add-t-5 Inv-loop μ-loop
-add-t-5 c = search needs
-
-mul-t-5 : tie.Need-mul-t-5 Inv-loop μ-loop
-mul-t-5 c = search needs
-
-slice-write-t-2 : tie.Need-slice-write-t-2 Inv-loop μ-loop
-slice-write-t-2 c = simp length-set (search needs)
+set-client-requires : tie.Need-set-client-requires Inv-loop μ-loop
+set-client-requires c κs = search needs
 
 add-r : tie.Need-add-r Inv-loop μ-loop
 add-r c = search needs
@@ -65,7 +37,11 @@ loop-less : tie.Need-loop-less Inv-loop μ-loop
 loop-less c = search needs
 
 loop-again : tie.Need-loop-again Inv-loop μ-loop
-loop-again c = (omega arith, record { small = search needs; long = simp length-set (search needs) }, chain-on _ _ _ _ (search needs) (c .next-free .ensures) (c .before .before .loop .inv .2))
+loop-again c =
+    let client = c .before .before in
+    let item = client .before .before .before .before in
+    let n = item .before .before in
+    (omega arith, search needs, chain-on _ _ _ (n .next-free .ensures) (item .set-item .ensures .0) (client .set-client .ensures .0) (n .before .before .loop .inv .2))
 
 same-length : tie.Need-same-length Inv-loop μ-loop
 same-length c = search needs
@@ -83,19 +59,10 @@ chain-spec =
     Inv-loop
     μ-loop
     loop-holds
+    cast-loop
     next-free-requires
-    mul-t
-    add-t
-    add-t-2
-    mul-t-2
-    slice-write-t
-    mul-t-3
-    add-t-3
-    mul-t-4
-    add-t-4
-    add-t-5
-    mul-t-5
-    slice-write-t-2
+    set-item-requires
+    set-client-requires
     add-r
     loop-less
     loop-again

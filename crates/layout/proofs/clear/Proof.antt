@@ -1,23 +1,19 @@
 -- The two fills. Assumes nothing.
 use mathlib.Core.Path.{sym}
-use native.Mathlib.Omega.{arith}
 use lib.Seq.{length-take-le}
 use Rattle.layout.proofs.Laws.{cleared}
 use borrow.Author.Needs.{needs}
 use Rattle.layout.proofs.clear.Statement.{statement}
 use Rattle.layout.proofs.clear.Tie as tie
 
-mul-from : tie.Need-mul-from
-mul-from c = search needs
-
-add-from : tie.Need-add-from
-add-from c = search needs
+counts-from-requires : tie.Need-counts-from-requires
+counts-from-requires c κs = search needs
 
 slice-relend-prefix-fill : tie.Need-slice-relend-prefix-fill
 slice-relend-prefix-fill c = search needs
 
 slice-aggregate-fill : tie.Need-slice-aggregate-fill
-slice-aggregate-fill c = sym (length-take-le _ _ (omega arith))
+slice-aggregate-fill c = sym (length-take-le _ _ (search needs))
 
 fill-requires : tie.Need-fill-requires
 fill-requires c κs = search needs
@@ -44,14 +40,14 @@ returns : tie.Need-returns
 returns c =
     let two = c .before .before in
     let one = two .before .before .before .before in
-    cleared _ _ _ _ (one .before .before .before .pre) (one .fill .ensures) (two .fill2 .ensures)
+    let from = one .before .before in
+    cleared _ _ _ _ _ (from .before .before .pre) (from .counts-from .ensures) (one .fill .ensures) (two .fill2 .ensures)
 
 pub clear-spec : {M : Type 1} → statement M
 clear-spec =
     tie.close
     (tie.spec
-    mul-from
-    add-from
+    counts-from-requires
     slice-relend-prefix-fill
     slice-aggregate-fill
     fill-requires

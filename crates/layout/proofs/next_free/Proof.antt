@@ -10,9 +10,6 @@ add-if1 c = search needs
 add-result : tie.Need-add-result
 add-result c = search needs
 
-cast-result : tie.Need-cast-result
-cast-result c = search needs
-
 returns : tie.Need-returns
 returns c = rw (lt-ltb _ _ (c .if1 .taken))
 
@@ -20,4 +17,4 @@ returns-2 : tie.Need-returns-2
 returns-2 c = rw (le-ltb _ _ (c .if1 .left))
 
 pub next-free-spec : {M : Type 1} → statement M
-next-free-spec = tie.close (tie.spec add-if1 add-result cast-result returns returns-2)
+next-free-spec = tie.close (tie.spec add-if1 add-result returns returns-2)

@@ -1,44 +1,75 @@
 -- A table that is not refused is ready, so the listing is of what it shows; a refused one is not read. Assumes nothing.
-use Rattle.rules.specs.History as history
-use Rattle.limiter.proofs.Lent.{part-long, part-ready}
-use Rattle.limiter.proofs.Questions.{listing-refuses, listing-answers}
+use mathlib.Core.Path.{_≡_, sym, ap, _∙_}
 use borrow.Author.Needs.{needs}
+use lib.ListN.{length}
+use Rattle.rules.specs.History as history
+use Rattle.rules.specs.Picture.{plain}
+use Rattle.answers.specs.Offered.{listedOf}
+use Rattle.questions.specs.Output.{listedWords}
+use Rattle.limiter.specs.Lent.{lent}
+use Rattle.limiter.proofs.Lent.{refuses, part-most, part-long, part-ready, answers}
+use Rattle.limiter.proofs.Answers.{call-refuses, call-answers}
+use Rattle.limiter.proofs.Calls.{listingOf}
 use Rattle.limiter.proofs.heaviest.Statement.{statement}
 use Rattle.limiter.proofs.heaviest.Tie as tie
 
 table-requires : tie.Need-table-requires
 table-requires c κs = search needs
 
-opening-requires : tie.Need-opening-requires
-opening-requires c κs = search needs
+of-requires : tie.Need-of-requires
+of-requires c κs = search needs
 
-returns : tie.Need-returns
-returns c = listing-refuses _ (c .before .before .opening .ensures) (c .if1 .taken) history.heaviest _ _
+enum-known-r : tie.Need-enum-known-r
+enum-known-r c = search needs
+
+enum-known-q : tie.Need-enum-known-q
+enum-known-q c = search needs
+
+size-requires : tie.Need-size-requires
+size-requires c κs = let o = c .before in part-most _ (sym (o .q .given .1) ∙ o .before .before .of .ensures)
 
 slice-aggregate-heaviest : tie.Need-slice-aggregate-heaviest
-slice-aggregate-heaviest c = let i = c .before in part-long _ (i .before .before .opening .ensures) (i .if1 .left)
+slice-aggregate-heaviest c = let o = c .before .before .before in part-long _ (sym (o .q .given .1) ∙ o .before .before .of .ensures) (c .before .size .ensures)
 
 heaviest-requires : tie.Need-heaviest-requires
-heaviest-requires c κs = let i = c .before .before in part-ready _ (i .before .before .opening .ensures) (i .if1 .left)
+heaviest-requires c κs = let z = c .before .before in let o = z .before .before in part-ready _ (sym (o .q .given .1) ∙ o .before .before .of .ensures) (z .size .ensures)
+
+offered-listing-requires : tie.Need-offered-listing-requires
+offered-listing-requires c κs = search needs
+
+returns : tie.Need-returns
+returns c =
+    let o = c .before in
+    let f = sym (o .r .given .1) ∙ o .before .before .of .ensures in
+    let a = o .before .before .before .before .before .before .before .args in
+    let (reply, numbers) = call-refuses (listingOf (a .k) (length (a .out .now))) _ f in
+    (reply, (numbers, refuses _ f (λ _. a .out .now) (listedWords history.heaviest (a .k) (plain (lent (a .t .now))) (a .out .now))))
 
 same-length : tie.Need-same-length
 same-length c = search needs
 
 returns-2 : tie.Need-returns-2
 returns-2 c =
-    let h = c .before .before in
-    let i = h .before .before .before in
-    let args = i .before .before .before .before .before .before .before .args in
-    listing-answers _ (i .before .before .opening .ensures) (i .if1 .left) history.heaviest (args .k) (args .out .now) (h .heaviest .ensures .0) (h .heaviest .ensures .1)
+    let h = c .before .before .before in
+    let z = h .before .before .before in
+    let o = z .before .before in
+    let f = sym (o .q .given .1) ∙ o .before .before .of .ensures in
+    let a = o .before .before .before .before .before .before .before .args in
+    let (reply, numbers) = call-answers (listingOf (a .k) (length (a .out .now))) _ f (z .size .ensures) (c .offered-listing .ensures ∙ ap listedOf (h .heaviest .ensures .0)) in
+    (reply, (numbers, answers _ f (z .size .ensures) (λ _. a .out .now) (λ P. listedWords history.heaviest (a .k) (plain P) (a .out .now)) (h .heaviest .ensures .1)))
 
 pub heaviest-spec : {M : Type 1} → statement M
 heaviest-spec =
     tie.close
     (tie.spec
     table-requires
-    opening-requires
-    returns
+    of-requires
+    enum-known-r
+    enum-known-q
+    size-requires
     slice-aggregate-heaviest
     heaviest-requires
+    offered-listing-requires
+    returns
     same-length
     returns-2)

@@ -1,36 +1,58 @@
--- A table that is not refused is ready, so the ticket is of what it shows. Assumes nothing.
-use Rattle.rules.specs.History as history
-use Rattle.limiter.proofs.Lent.{part-long, part-ready}
-use Rattle.limiter.proofs.Questions.{ticket-refuses, ticket-answers}
+-- A table that is not refused is ready, so the ticket is of what it shows; a refused one is not read. Assumes nothing.
+use mathlib.Core.Path.{_≡_, sym, ap, _∙_}
 use borrow.Author.Needs.{needs}
+use Rattle.rules.specs.History as history
+use Rattle.answers.specs.Offered.{toldOf}
+use Rattle.limiter.proofs.Lent.{part-most, part-long, part-ready}
+use Rattle.limiter.proofs.Answers.{call-refuses, call-answers}
+use Rattle.limiter.proofs.Calls.{telling}
 use Rattle.limiter.proofs.oldest.Statement.{statement}
 use Rattle.limiter.proofs.oldest.Tie as tie
 
 table-requires : tie.Need-table-requires
 table-requires c κs = search needs
 
-opening-requires : tie.Need-opening-requires
-opening-requires c κs = search needs
+of-requires : tie.Need-of-requires
+of-requires c κs = search needs
 
-returns : tie.Need-returns
-returns c = ticket-refuses _ (c .before .before .opening .ensures) (c .if1 .taken) history.oldestTicket _
+enum-known-r : tie.Need-enum-known-r
+enum-known-r c = search needs
+
+enum-known-q : tie.Need-enum-known-q
+enum-known-q c = search needs
+
+size-requires : tie.Need-size-requires
+size-requires c κs = let o = c .before in part-most _ (sym (o .q .given .1) ∙ o .before .before .of .ensures)
 
 slice-aggregate-oldest : tie.Need-slice-aggregate-oldest
-slice-aggregate-oldest c = let i = c .before in part-long _ (i .before .before .opening .ensures) (i .if1 .left)
+slice-aggregate-oldest c = let o = c .before .before .before in part-long _ (sym (o .q .given .1) ∙ o .before .before .of .ensures) (c .before .size .ensures)
 
 oldest-requires : tie.Need-oldest-requires
-oldest-requires c κs = let i = c .before .before in (part-ready _ (i .before .before .opening .ensures) (i .if1 .left), search needs)
+oldest-requires c κs = let z = c .before .before in let o = z .before .before in (part-ready _ (sym (o .q .given .1) ∙ o .before .before .of .ensures) (z .size .ensures), search needs)
+
+offered-ticket-requires : tie.Need-offered-ticket-requires
+offered-ticket-requires c κs = search needs
+
+returns : tie.Need-returns
+returns c = let o = c .before in call-refuses (telling history.oldestTicket _) _ (sym (o .r .given .1) ∙ o .before .before .of .ensures)
 
 returns-2 : tie.Need-returns-2
-returns-2 c = let i = c .before .before .before in ticket-answers _ (i .before .before .opening .ensures) (i .if1 .left) history.oldestTicket _ (c .oldest .ensures)
+returns-2 c =
+    let z = c .before .before .before .before in
+    let o = z .before .before in
+    call-answers (telling history.oldestTicket _) _ (sym (o .q .given .1) ∙ o .before .before .of .ensures) (z .size .ensures) (c .offered-ticket .ensures ∙ ap toldOf (c .before .oldest .ensures))
 
 pub oldest-spec : {M : Type 1} → statement M
 oldest-spec =
     tie.close
     (tie.spec
     table-requires
-    opening-requires
-    returns
+    of-requires
+    enum-known-r
+    enum-known-q
+    size-requires
     slice-aggregate-oldest
     oldest-requires
+    offered-ticket-requires
+    returns
     returns-2)

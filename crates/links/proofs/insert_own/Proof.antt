@@ -10,7 +10,7 @@ own-requires c κs = search needs
 insert-requires : tie.Need-insert-requires
 insert-requires c κs =
     let k = c .before .before .before in
-    insert-asks (own-lens _ (k .pre .0 .small) _ (k .pre .1 .0)) (c .own .ensures) _ _ _ (k .pre .0, k .pre .1 .1)
+    insert-asks (own-lens _ (k .pre .0 .small) _) (k .pre .1 .0) (c .own .ensures) _ _ _ (k .pre .0, k .pre .1 .1)
 
 same-length : tie.Need-same-length
 same-length c = search needs
@@ -19,7 +19,7 @@ returns : tie.Need-returns
 returns c =
     let u = c .before .before in
     let k = u .before .before .before .before in
-    insert-does (own-lens _ (k .pre .0 .small) _ (k .pre .1 .0)) (u .before .own .ensures) _ _ _ (k .pre .0, k .pre .1 .1) (u .insert .ensures)
+    insert-does (own-lens _ (k .pre .0 .small) _) (k .pre .1 .0) (u .before .own .ensures) _ _ _ (k .pre .0, k .pre .1 .1) (u .insert .ensures)
 
 pub insert-own-spec : {M : Type 1} → statement M
 insert-own-spec = tie.close (tie.spec own-requires insert-requires same-length returns)

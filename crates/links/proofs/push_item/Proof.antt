@@ -1,4 +1,5 @@
 -- The one code, by the window's lens. Assumes nothing.
+use lib.Dec.{lit<}
 use borrow.Author.Needs.{needs}
 use Rattle.links.proofs.Strands.{window-lens, push-asks, push-does}
 use Rattle.links.proofs.push_item.Statement.{statement}
@@ -10,7 +11,7 @@ window-requires c κs = search needs
 push-requires : tie.Need-push-requires
 push-requires c κs =
     let k = c .before .before .before in
-    push-asks (window-lens _ (k .pre .0 .small)) (c .window .ensures) _ (k .pre)
+    push-asks (window-lens _ (k .pre .0 .small)) (lit< tt) (c .window .ensures) _ (k .pre)
 
 same-length : tie.Need-same-length
 same-length c = search needs
@@ -19,7 +20,7 @@ returns : tie.Need-returns
 returns c =
     let u = c .before .before in
     let k = u .before .before .before .before in
-    push-does (window-lens _ (k .pre .0 .small)) (u .before .window .ensures) _ (k .pre) (u .push .ensures)
+    push-does (window-lens _ (k .pre .0 .small)) (lit< tt) (u .before .window .ensures) _ (k .pre) (u .push .ensures)
 
 pub push-item-spec : {M : Type 1} → statement M
 push-item-spec = tie.close (tie.spec window-requires push-requires same-length returns)

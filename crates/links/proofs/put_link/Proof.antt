@@ -1,17 +1,9 @@
 -- The test picks the place that `linkAt` picks. Assumes nothing.
 use mathlib.Core.Path.{sym}
-use native.Mathlib.Omega.{arith}
-use Prim.Native.Nat.{_<_}
-use lib.ListN.{length}
-use Rattle.links.specs.Places.{wordAt}
-use borrow.Author.Needs.{needs}
 use borrow.Author.Tests.{eq-eqb, ne-eqb}
+use borrow.Author.Needs.{needs}
 use Rattle.links.proofs.put_link.Statement.{statement}
 use Rattle.links.proofs.put_link.Tie as tie
-
--- the row's link stands within the table
-reach : (c : tie.Else1) → wordAt (c .before .args .p) (c .before .args .e) (c .before .args .f) < length (c .before .args .t .now)
-reach c = c .before .pre .1 (c .if1 .left)
 
 mul-t : tie.Need-mul-t
 mul-t c = search needs
@@ -19,20 +11,8 @@ mul-t c = search needs
 slice-write-t : tie.Need-slice-write-t
 slice-write-t c = search needs
 
-mul-t-2 : tie.Need-mul-t-2
-mul-t-2 c = omega (arith, reach (c .before))
-
-add-t : tie.Need-add-t
-add-t c = omega (arith, reach (c .before .before))
-
-add-t-2 : tie.Need-add-t-2
-add-t-2 c = omega (arith, reach (c .before .before))
-
-mul-t-3 : tie.Need-mul-t-3
-mul-t-3 c = omega (arith, reach (c .before .before))
-
-slice-write-t-2 : tie.Need-slice-write-t-2
-slice-write-t-2 c = omega (arith, reach (c .before .before))
+set-link-requires : tie.Need-set-link-requires
+set-link-requires c κs = let e = c .before in e .before .before .pre .1 (e .if1 .left)
 
 same-length : tie.Need-same-length
 same-length c = search needs
@@ -44,20 +24,11 @@ same-length-2 : tie.Need-same-length-2
 same-length-2 c = search needs
 
 returns-2 : tie.Need-returns-2
-returns-2 c = rw (ne-eqb _ _ (λ z. c .before .before .if1 .left (sym z)))
+returns-2 c =
+    let s = c .before .before in
+    rw (ne-eqb _ _ (λ z. s .before .before .if1 .left (sym z))) (s .set-link .ensures)
 
 pub put-link-spec : {M : Type 1} → statement M
 put-link-spec =
     tie.close
-    (tie.spec
-    mul-t
-    slice-write-t
-    mul-t-2
-    add-t
-    add-t-2
-    mul-t-3
-    slice-write-t-2
-    same-length
-    returns
-    same-length-2
-    returns-2)
+    (tie.spec mul-t slice-write-t set-link-requires same-length returns same-length-2 returns-2)

@@ -1,4 +1,5 @@
 -- The one code, by the order's lens. Assumes nothing.
+use lib.Dec.{lit<}
 use borrow.Author.Needs.{needs}
 use Rattle.links.proofs.Strands.{order-lens, unlink-asks, unlink-does}
 use Rattle.links.proofs.unlink_client.Statement.{statement}
@@ -10,7 +11,7 @@ order-requires c κs = search needs
 unlink-requires : tie.Need-unlink-requires
 unlink-requires c κs =
     let k = c .before .before .before in
-    unlink-asks (order-lens _ (k .pre .0 .small)) (c .order .ensures) _ (k .pre)
+    unlink-asks (order-lens _ (k .pre .0 .small)) (lit< tt) (c .order .ensures) _ (k .pre)
 
 same-length : tie.Need-same-length
 same-length c = search needs
@@ -19,7 +20,7 @@ returns : tie.Need-returns
 returns c =
     let u = c .before .before in
     let k = u .before .before .before .before in
-    unlink-does (order-lens _ (k .pre .0 .small)) (u .before .order .ensures) _ (k .pre) (u .unlink .ensures)
+    unlink-does (order-lens _ (k .pre .0 .small)) (lit< tt) (u .before .order .ensures) _ (k .pre) (u .unlink .ensures)
 
 pub unlink-client-spec : {M : Type 1} → statement M
 unlink-client-spec = tie.close (tie.spec order-requires unlink-requires same-length returns)

@@ -10,7 +10,7 @@ own-requires c κs = search needs
 unlink-requires : tie.Need-unlink-requires
 unlink-requires c κs =
     let k = c .before .before .before in
-    unlink-asks (own-lens _ (k .pre .0 .small) _ (k .pre .1 .0)) (c .own .ensures) _ (k .pre .0, k .pre .1 .1)
+    unlink-asks (own-lens _ (k .pre .0 .small) _) (k .pre .1 .0) (c .own .ensures) _ (k .pre .0, k .pre .1 .1)
 
 same-length : tie.Need-same-length
 same-length c = search needs
@@ -19,7 +19,7 @@ returns : tie.Need-returns
 returns c =
     let u = c .before .before in
     let k = u .before .before .before .before in
-    unlink-does (own-lens _ (k .pre .0 .small) _ (k .pre .1 .0)) (u .before .own .ensures) _ (k .pre .0, k .pre .1 .1) (u .unlink .ensures)
+    unlink-does (own-lens _ (k .pre .0 .small) _) (k .pre .1 .0) (u .before .own .ensures) _ (k .pre .0, k .pre .1 .1) (u .unlink .ensures)
 
 pub unlink-own-spec : {M : Type 1} → statement M
 unlink-own-spec = tie.close (tie.spec own-requires unlink-requires same-length returns)

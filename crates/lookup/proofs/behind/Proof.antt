@@ -1,7 +1,7 @@
 -- The row is still to come (`Comes`); the rows that are left grow fewer.
 use borrow.Author.Needs.{needs}
 use lib.ListN.{length}
-use Rattle.lookup.specs.Book.{from}
+use Rattle.lookup.specs.Inside.Reading.{from}
 use Rattle.lookup.proofs.Walks.{row-low, row-less, Comes, comes-first, comes-next, comes-here}
 use Rattle.lookup.proofs.behind.Statement.{statement}
 use Rattle.lookup.proofs.behind.Tie as tie

@@ -1,7 +1,8 @@
 -- The chains so far are right and leave that room (`Checks`); the buckets that are left grow fewer.
+use native.Mathlib.Omega.{arith}
 use borrow.Author.Needs.{needs}
 use Prim.Native.Nat.{_-_}
-use Rattle.lookup.proofs.Rooms.{Checks, checks-first, checks-end, checks-wrong, left-ends, checks-ids, checks-next}
+use Rattle.lookup.proofs.Rooms.{Checks, checks-first, checks-end, checks-wrong, left-less, left-ends, left-rows, checks-ids, checks-next}
 use Rattle.lookup.proofs.check_lookup.Statement.{statement}
 use Rattle.lookup.proofs.check_lookup.Tie as tie
 
@@ -26,8 +27,12 @@ room-after-requires c κs = search needs
 returns : tie.Need-returns Inv-loop μ-loop
 returns c = search (checks-wrong, needs)
 
+sub-own-ids : tie.Need-sub-own-ids Inv-loop μ-loop
+sub-own-ids c = omega (arith, left-less (c .before .room-after .ensures) (c .if1 .left))
+
 own-ids-requires : tie.Need-own-ids-requires Inv-loop μ-loop
-own-ids-requires c κs = (search needs, left-ends (c .before .room-after .ensures) (c .if1 .left))
+own-ids-requires c κs =
+    let w = c .before .room-after .ensures in (search needs, (left-ends w (c .if1 .left), left-rows w (c .if1 .left)))
 
 returns-2 : tie.Need-returns-2 Inv-loop μ-loop
 returns-2 c = search (checks-ids, needs)
@@ -55,6 +60,7 @@ check-lookup-spec =
     bucket-requires
     room-after-requires
     returns
+    sub-own-ids
     own-ids-requires
     returns-2
     add-b

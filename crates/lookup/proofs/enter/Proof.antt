@@ -1,38 +1,24 @@
 -- Two words, each as the regions have it.
 use borrow.Author.Needs.{needs}
-use Rattle.lookup.proofs.Writers.{enter-writes}
+use Rattle.lookup.proofs.Writers.{home-low, enters}
 use Rattle.lookup.proofs.enter.Statement.{statement}
 use Rattle.lookup.proofs.enter.Tie as tie
 
-client-requires : tie.Need-client-requires
-client-requires c κs = search needs
-
-bucket-in-requires : tie.Need-bucket-in-requires
-bucket-in-requires c κs = search needs
-
 bucket-requires : tie.Need-bucket-requires
-bucket-requires c κs = search needs
+bucket-requires c κs = search (home-low, needs)
 
 set-client-requires : tie.Need-set-client-requires
 set-client-requires c κs = search needs
 
 set-bucket-requires : tie.Need-set-bucket-requires
-set-bucket-requires c κs = search needs
+set-bucket-requires c κs = search (home-low, needs)
 
 same-length : tie.Need-same-length
 same-length c = search needs
 
 returns : tie.Need-returns
-returns c = search (enter-writes, needs)
+returns c = search (enters, needs)
 
 pub enter-spec : {M : Type 1} → statement M
 enter-spec =
-    tie.close
-    (tie.spec
-    client-requires
-    bucket-in-requires
-    bucket-requires
-    set-client-requires
-    set-bucket-requires
-    same-length
-    returns)
+    tie.close (tie.spec bucket-requires set-client-requires set-bucket-requires same-length returns)

@@ -1,7 +1,7 @@
 -- The chain of the row's bucket reaches it; then the two words as the regions have them.
 use borrow.Author.Needs.{needs}
-use Rattle.lookup.specs.View.{first-reaches}
-use Rattle.lookup.proofs.Writers.{leave-writes}
+use Rattle.lookup.proofs.Walks.{first-reaches}
+use Rattle.lookup.proofs.Writers.{leaves}
 use Rattle.lookup.proofs.leave.Statement.{statement}
 use Rattle.lookup.proofs.leave.Tie as tie
 
@@ -29,7 +29,7 @@ same-length : tie.Need-same-length
 same-length c = search needs
 
 returns : tie.Need-returns
-returns c = search (leave-writes, needs)
+returns c = search (leaves, needs)
 
 pub leave-spec : {M : Type 1} → statement M
 leave-spec =

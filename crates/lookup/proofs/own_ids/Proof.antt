@@ -1,52 +1,29 @@
--- The ids of the rest are its own exactly where those of the whole are (`Owns`); the rows that are left grow fewer.
+-- One row needs no test; a short chain and a long one have their own.
+use native.Mathlib.Omega.{arith}
 use borrow.Author.Needs.{needs}
-use lib.ListN.{length}
-use Rattle.lookup.specs.Book.{from}
-use Rattle.lookup.proofs.Walks.{row-low, row-less, row-ends, Owns, owns-first, owns-none, owns-next, owns-not}
+use Rattle.rules.proofs.Tells.{tells-yes}
+use Rattle.lookup.specs.Inside.Reading.{idOf, from}
+use Rattle.lookup.proofs.Ids.{owns-one}
 use Rattle.lookup.proofs.own_ids.Statement.{statement}
 use Rattle.lookup.proofs.own_ids.Tie as tie
 
-abbrev Inv-loop : tie.InvT-loop
-Inv-loop t q first at₀ at = Owns q t first at
+returns : tie.Need-returns
+returns c =
+    let a = c .before .before .args in
+    tells-yes (owns-one (idOf (a .q) (a .t .now)) (from (a .q) (a .t .now) (a .first)) (omega arith))
 
-abbrev μ-loop : tie.MeasureT-loop
-μ-loop t q first at₀ at = length (from q t at)
+short-own-ids-requires : tie.Need-short-own-ids-requires
+short-own-ids-requires c κs = search needs
 
-loop-holds : tie.Need-loop-holds Inv-loop μ-loop
-loop-holds c = search (owns-first, needs)
+returns-2 : tie.Need-returns-2
+returns-2 c = search needs
 
-client-requires : tie.Need-client-requires Inv-loop μ-loop
-client-requires c κs = search (row-low, needs)
+long-own-ids-requires : tie.Need-long-own-ids-requires
+long-own-ids-requires c κs = search needs
 
-client-requires-2 : tie.Need-client-requires-2 Inv-loop μ-loop
-client-requires-2 c κs = search (row-low, needs)
-
-seek-requires : tie.Need-seek-requires Inv-loop μ-loop
-seek-requires c κs = search (row-ends, needs)
-
-returns : tie.Need-returns Inv-loop μ-loop
-returns c = search (owns-not, needs)
-
-loop-less : tie.Need-loop-less Inv-loop μ-loop
-loop-less c = search (row-less, needs)
-
-loop-again : tie.Need-loop-again Inv-loop μ-loop
-loop-again c = search (owns-next, needs)
-
-returns-2 : tie.Need-returns-2 Inv-loop μ-loop
-returns-2 c = search (owns-none, needs)
+returns-3 : tie.Need-returns-3
+returns-3 c = search needs
 
 pub own-ids-spec : {M : Type 1} → statement M
 own-ids-spec =
-    tie.close
-    (tie.spec
-    Inv-loop
-    μ-loop
-    loop-holds
-    client-requires
-    client-requires-2
-    seek-requires
-    returns
-    loop-less
-    loop-again
-    returns-2)
+    tie.close (tie.spec returns short-own-ids-requires returns-2 long-own-ids-requires returns-3)

@@ -1,6 +1,6 @@
 -- At none a bucket's word, else a row's: either way the hook.
 use borrow.Author.Needs.{needs}
-use Rattle.lookup.proofs.Writers.{link-row, hook-end, hook-row}
+use Rattle.lookup.proofs.Writers.{link-row, end-writes, row-writes}
 use Rattle.lookup.proofs.set_hook.Statement.{statement}
 use Rattle.lookup.proofs.set_hook.Tie as tie
 
@@ -14,13 +14,13 @@ same-length : tie.Need-same-length
 same-length c = search needs
 
 returns : tie.Need-returns
-returns c = search (hook-end, needs)
+returns c = search (end-writes, needs)
 
 same-length-2 : tie.Need-same-length-2
 same-length-2 c = search needs
 
 returns-2 : tie.Need-returns-2
-returns-2 c = search (hook-row, needs)
+returns-2 c = search (row-writes, needs)
 
 pub set-hook-spec : {M : Type 1} → statement M
 set-hook-spec =

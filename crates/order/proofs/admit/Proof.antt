@@ -1,52 +1,49 @@
--- A free row is there, so the steps can be made; the lookup keeps the row by its own laws, one for each step. Assumes nothing.
-use borrow.Author.Needs.{needs}
+-- `order::admit` meets its contract: a free row is there, so the steps can be made; the lookup keeps the row by its own promise. Assumes nothing.
 use mathlib.Core.Path.{refl}
-use native.Mathlib.Omega.{arith}
-use Rattle.order.proofs.Calls.{first-row, new-row, lightest-link, room-after, admit-writes, enters}
+use borrow.Author.Needs.{needs}
+use Rattle.order.proofs.Together.{new-row, new-id, lightest-link, room-after, admits}
 use Rattle.order.proofs.admit.Statement.{statement}
 use Rattle.order.proofs.admit.Tie as tie
 
 take-row-requires : tie.Need-take-row-requires
-take-row-requires c κs = search (first-row, needs)
+take-row-requires c κs = let s = c .before .before in (s .pre .0, new-row (s .pre .1 .1) refl)
 
 enter-requires : tie.Need-enter-requires
-enter-requires c κs = search (new-row, needs)
+enter-requires c κs =
+    let k = c .before .before .before in
+    let (_, (home, D)) = k .before .before .before .pre in
+    let (is, (takes, sized)) = k .take-row .ensures in
+    (sized, (new-row D is, rw (new-id D _ is takes) home))
 
-put-in-requires : tie.Need-put-in-requires
-put-in-requires c κs =
-    let x = c .before .before .before in
-    let w = x .before .before .before .before in
-    let s = w .before .before .before in
-    let h = new-row (s .pre .0 .small) (s .pre .1 .1) (w .take-row .ensures .0) in
-    (search needs, ((h, omega arith, omega (arith, h)), (λ n. absurd (n refl), lightest-link _ _ (s .pre .1 .1) (w .take-row .ensures .1 .0) (x .enter .ensures .0))))
+put-first-requires : tie.Need-put-first-requires
+put-first-requires c κs =
+    let e = c .before .before .before in
+    let k = e .before .before .before .before in
+    let (_, (_, D)) = k .before .before .before .pre in
+    let (is, (takes, _)) = k .take-row .ensures in
+    (e .enter .ensures .1, (new-row D is, lightest-link D _ is takes (e .enter .ensures .0)))
 
 one-more-requires : tie.Need-one-more-requires
 one-more-requires c κs =
-    let y = c .before .before .before in
-    let x = y .before .before .before .before in
-    let w = x .before .before .before .before in
-    let s = w .before .before .before in
-    (search needs, room-after _ _ (s .pre .1 .1) (w .take-row .ensures .1 .0) (x .enter .ensures .0) (y .put-in .ensures .0))
+    let p = c .before .before .before in
+    let e = p .before .before .before .before in
+    let k = e .before .before .before .before in
+    let (_, (_, D)) = k .before .before .before .pre in
+    let (is, (takes, _)) = k .take-row .ensures in
+    (p .put-first .ensures .1, room-after D _ is takes (e .enter .ensures .0) (p .put-first .ensures .0))
 
 same-length : tie.Need-same-length
 same-length c = search needs
 
 returns : tie.Need-returns
 returns c =
-    let z = c .before .before in
-    let y = z .before .before .before .before in
-    let x = y .before .before .before .before in
-    let w = x .before .before .before .before in
-    let s = w .before .before .before in
-    let done = z .one-more .ensures in
-    let first = w .take-row .ensures in
-    let D = s .pre .1 .1 in (
-      first .0,
-      (
-        admit-writes _ _ D (first .1 .0) (x .enter .ensures .0) (y .put-in .ensures .0) (done .0) (first .0),
-        (done .1, enters _ _ D (first .1 .0) (x .enter .ensures .0) (y .put-in .ensures .0) (done .0) (s .pre .0) (first .0) (new-row (s .pre .0 .small) D (first .0))),
-      ),
-    )
+    let m = c .before .before in
+    let p = m .before .before .before .before in
+    let e = p .before .before .before .before in
+    let k = e .before .before .before .before in
+    let (_, (_, D)) = k .before .before .before .pre in
+    let (is, (takes, _)) = k .take-row .ensures in
+    (is, (admits D _ is takes (e .enter .ensures .0) (p .put-first .ensures .0) (m .one-more .ensures .0), m .one-more .ensures .1))
 
 pub admit-spec : {M : Type 1} → statement M
 admit-spec =
@@ -54,7 +51,7 @@ admit-spec =
     (tie.spec
     take-row-requires
     enter-requires
-    put-in-requires
+    put-first-requires
     one-more-requires
     same-length
     returns)

@@ -1,6 +1,6 @@
 -- One word read, two written. Assumes nothing.
 use borrow.Author.Needs.{needs}
-use Rattle.order.proofs.Calls.{enter-writes}
+use Rattle.order.proofs.Writes.{enter-writes}
 use Rattle.order.proofs.enter_group.Statement.{statement}
 use Rattle.order.proofs.enter_group.Tie as tie
 

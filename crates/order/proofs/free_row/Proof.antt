@@ -1,6 +1,6 @@
 -- One word read, and then five written. Assumes nothing.
 use borrow.Author.Needs.{needs}
-use Rattle.order.proofs.Calls.{free-writes}
+use Rattle.order.proofs.Writes.{free-writes}
 use Rattle.order.proofs.free_row.Statement.{statement}
 use Rattle.order.proofs.free_row.Tie as tie
 

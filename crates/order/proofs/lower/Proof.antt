@@ -1,47 +1,85 @@
--- Taken out, and put in one group down: where it goes can be followed, since the order is right. Assumes nothing.
-use borrow.Author.Needs.{needs}
+-- `order::lower` meets its contract: the light end that was found is in the list, and the client does not stand just before it. Assumes nothing.
+use Prim.Native.Nat.{_≤_, _<_}
 use native.Mathlib.Omega.{arith}
-use Rattle.order.proofs.Calls.{client-stands, client-row, two, lower-asks, lower-writes}
+use lib.Dec.{lit<}
+use borrow.Author.Needs.{needs}
+use Rattle.order.proofs.Counts.{client-row, count-in, count-known, lower-asks, lower-writes}
 use Rattle.order.proofs.lower.Statement.{statement}
 use Rattle.order.proofs.lower.Tie as tie
 
-client-requires : tie.Need-client-requires
-client-requires c κs = search (client-row, needs)
+-- the row, and the count
+known : (s : tie.Start) → (s .args .r < s .args .q) × (2 ≤ s .args .n) × (s .args .n ≤ s .args .q)
+known s =
+    let (z, (D, e)) = s .pre in
+    (client-row (z .small) D, count-known (z .small) D e, count-in (z .small) D e .1)
 
-lower-after-requires : tie.Need-lower-after-requires
-lower-after-requires c κs = search needs
+sub-k : tie.Need-sub-k
+sub-k c = known (c .before) .1
 
-remove-requires : tie.Need-remove-requires
-remove-requires c κs = search (client-stands, needs)
+cast-k : tie.Need-cast-k
+cast-k c = search needs
 
-sub-put-in : tie.Need-sub-put-in
-sub-put-in c =
-    let x = c .before .before .before .before .before .before .before in
-    let s = x .before .before .before in
-    omega (arith, two (s .pre .0 .small) (s .pre .1) (x .client .ensures), s .pre .0 .small)
+light-end-requires : tie.Need-light-end-requires
+light-end-requires c κs = let s = c .before .before in (s .pre .0, omega (arith, known s))
 
-put-in-requires : tie.Need-put-in-requires
-put-in-requires c κs =
-    let y = c .before .before .before in
-    let e = y .before .before in
-    let x = e .before .before in
-    let s = x .before .before .before in
-    (search needs, lower-asks (s .pre .0 .small) (s .pre .1) (x .client .ensures) (e .lower-after .ensures) (y .remove .ensures .0))
+add-leave-group : tie.Need-add-leave-group
+add-leave-group c = search needs
+
+leave-group-requires : tie.Need-leave-group-requires
+leave-group-requires c κs = let s = c .before .before .before .before in (s .pre .0, (known s .0, omega (arith, known s)))
+
+move-before-requires : tie.Need-move-before-requires
+move-before-requires c κs =
+    let g = c .before .before .before in
+    let l = g .before .before in
+    let s = l .before .before .before in
+    let (z, (D, n)) = s .pre in
+    (g .leave-group .ensures .1, lower-asks (z .small) D n (known s .1) (l .light-end .ensures) (g .leave-group .ensures .0))
+
+sub-set-client : tie.Need-sub-set-client
+sub-set-client c =
+    let s = c .before .before .before .before .before .before .before .before .before .before .before .before in
+    omega (arith, known s)
+
+set-client-requires : tie.Need-set-client-requires
+set-client-requires c κs =
+    let m = c .before .before .before in
+    (m .move-before .ensures .1, (known (m .before .before .before .before .before .before .before .before .before) .0, lit< tt))
+
+enter-group-requires : tie.Need-enter-group-requires
+enter-group-requires c κs =
+    let n = c .before .before .before in
+    let s = n .before .before .before .before .before .before .before .before .before .before .before .before .before in
+    (n .set-client .ensures .1, omega (arith, known s))
 
 same-length : tie.Need-same-length
 same-length c = search needs
 
 returns : tie.Need-returns
-returns c = (search (lower-writes, needs), search needs)
+returns c =
+    let v = c .before .before in
+    let n = v .before .before .before .before in
+    let m = n .before .before .before .before in
+    let g = m .before .before .before .before in
+    let l = g .before .before in
+    let s = l .before .before .before in
+    let (z, (D, x)) = s .pre in (
+      lower-writes (z .small) D x (known s .1) (l .light-end .ensures) (g .leave-group .ensures .0) (m .move-before .ensures .0) (n .set-client .ensures .0) (v .enter-group .ensures .0),
+      v .enter-group .ensures .1,
+    )
 
 pub lower-spec : {M : Type 1} → statement M
 lower-spec =
     tie.close
     (tie.spec
-    client-requires
-    lower-after-requires
-    remove-requires
-    sub-put-in
-    put-in-requires
+    sub-k
+    cast-k
+    light-end-requires
+    add-leave-group
+    leave-group-requires
+    move-before-requires
+    sub-set-client
+    set-client-requires
+    enter-group-requires
     same-length
     returns)

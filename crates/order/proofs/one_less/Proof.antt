@@ -1,7 +1,7 @@
 -- One word read, one written. Assumes nothing.
 use borrow.Author.Needs.{needs}
 use Prim.Native.Nat.{_-_}
-use Rattle.order.proofs.Calls.{number-writes}
+use Rattle.order.proofs.Writes.{number-writes}
 use Rattle.order.proofs.one_less.Statement.{statement}
 use Rattle.order.proofs.one_less.Tie as tie
 

@@ -1,7 +1,7 @@
 -- One word read, one written; a table has room for one more. Assumes nothing.
 use borrow.Author.Needs.{needs}
 use Prim.Native.Nat.{_+_}
-use Rattle.order.proofs.Calls.{number-writes}
+use Rattle.order.proofs.Writes.{number-writes}
 use Rattle.order.proofs.one_more.Statement.{statement}
 use Rattle.order.proofs.one_more.Tie as tie
 

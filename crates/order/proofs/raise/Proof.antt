@@ -1,47 +1,81 @@
--- Taken out, and put in one group up: where it goes can be followed, since the order is right. Assumes nothing.
-use borrow.Author.Needs.{needs}
-use Rattle.order.proofs.Calls.{client-stands, client-row, room, raise-asks, raise-writes}
+-- `order::raise` meets its contract: the heavier end of the client's group is in the list, so the client can come to stand after it. Assumes nothing.
+use Prim.Native.Nat.{_≤_, _<_}
 use native.Mathlib.Omega.{arith}
+use lib.Dec.{lit<}
+use borrow.Author.Needs.{needs}
+use Rattle.order.proofs.Counts.{client-row, count-in, count-known, raise-asks, raise-writes}
 use Rattle.order.proofs.raise.Statement.{statement}
 use Rattle.order.proofs.raise.Tie as tie
 
-client-requires : tie.Need-client-requires
-client-requires c κs = search (client-row, needs)
+-- the row, and the count
+known : (s : tie.Start) → (s .args .r < s .args .q) × (1 ≤ s .args .n) × (s .args .n < s .args .q)
+known s =
+    let (z, (D, e)) = s .pre in
+    (client-row (z .small) D, count-in (z .small) D e .0, count-known (z .small) D e)
 
-raise-after-requires : tie.Need-raise-after-requires
-raise-after-requires c κs = search (client-stands, needs)
+sub-k : tie.Need-sub-k
+sub-k c = known (c .before) .1
 
-remove-requires : tie.Need-remove-requires
-remove-requires c κs = search (client-stands, needs)
+cast-k : tie.Need-cast-k
+cast-k c = search needs
 
-add-put-in : tie.Need-add-put-in
-add-put-in c =
-    let x = c .before .before .before .before .before .before .before in
-    let s = x .before .before .before in
-    omega (arith, room (s .pre .0 .small) (s .pre .1) (x .client .ensures), s .pre .0 .small)
+count-end-requires : tie.Need-count-end-requires
+count-end-requires c κs = let s = c .before .before in (s .pre .0, (omega (arith, known s), lit< tt))
 
-put-in-requires : tie.Need-put-in-requires
-put-in-requires c κs =
-    let y = c .before .before .before in
-    let e = y .before .before in
-    let x = e .before .before in
-    let s = x .before .before .before in
-    (search needs, raise-asks (s .pre .0 .small) (s .pre .1) (x .client .ensures) (e .raise-after .ensures) (y .remove .ensures .0))
+leave-group-requires : tie.Need-leave-group-requires
+leave-group-requires c κs = let s = c .before .before .before .before in (s .pre .0, (known s .0, omega (arith, known s)))
+
+move-after-requires : tie.Need-move-after-requires
+move-after-requires c κs =
+    let g = c .before .before .before in
+    let e = g .before .before in
+    let (z, (D, n)) = e .before .before .before .pre in
+    (g .leave-group .ensures .1, raise-asks (z .small) D n (e .count-end .ensures) (g .leave-group .ensures .0))
+
+add-set-client : tie.Need-add-set-client
+add-set-client c =
+    let s = c .before .before .before .before .before .before .before .before .before .before .before .before in
+    omega (arith, known s, s .pre .0 .small)
+
+set-client-requires : tie.Need-set-client-requires
+set-client-requires c κs =
+    let m = c .before .before .before in
+    (m .move-after .ensures .1, (known (m .before .before .before .before .before .before .before .before .before) .0, lit< tt))
+
+add-enter-group : tie.Need-add-enter-group
+add-enter-group c = search needs
+
+enter-group-requires : tie.Need-enter-group-requires
+enter-group-requires c κs =
+    let n = c .before .before .before in
+    let s = n .before .before .before .before .before .before .before .before .before .before .before .before .before in
+    (n .set-client .ensures .1, omega (arith, known s))
 
 same-length : tie.Need-same-length
 same-length c = search needs
 
 returns : tie.Need-returns
-returns c = (search (raise-writes, needs), search needs)
+returns c =
+    let v = c .before .before in
+    let n = v .before .before .before .before in
+    let m = n .before .before .before .before in
+    let g = m .before .before .before .before in
+    let e = g .before .before in
+    let (z, (D, x)) = e .before .before .before .pre in
+    (raise-writes (z .small) D x (e .count-end .ensures) (g .leave-group .ensures .0) (m .move-after .ensures .0) (n .set-client .ensures .0) (v .enter-group .ensures .0), v .enter-group .ensures .1)
 
 pub raise-spec : {M : Type 1} → statement M
 raise-spec =
     tie.close
     (tie.spec
-    client-requires
-    raise-after-requires
-    remove-requires
-    add-put-in
-    put-in-requires
+    sub-k
+    cast-k
+    count-end-requires
+    leave-group-requires
+    move-after-requires
+    add-set-client
+    set-client-requires
+    add-enter-group
+    enter-group-requires
     same-length
     returns)

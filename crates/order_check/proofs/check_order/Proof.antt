@@ -1,9 +1,9 @@
--- The three parts that the check looks for, and what they mean together (`checked`). Assumes nothing.
-use native.Mathlib.Omega.{arith}
-use borrow.Author.Tests.{not-false}
-use Rattle.rules.proofs.Tells.{tells-no, refuted, tells-so}
-use Rattle.order_check.proofs.Means.{checked}
+-- The three parts that the check looks for, and what they mean together (`checked`).
 use borrow.Author.Needs.{needs}
+use mathlib.Core.Logic.{⊎-elim}
+use native.Mathlib.Omega.{arith}
+use Rattle.rules.proofs.Tells.{tells-no, tells-so, refuted, told}
+use Rattle.order_check.proofs.Means.{checked}
 use Rattle.order_check.proofs.check_order.Statement.{statement}
 use Rattle.order_check.proofs.check_order.Tie as tie
 
@@ -13,24 +13,30 @@ header-requires c κs = search needs
 cast-clients : tie.Need-cast-clients
 cast-clients c = search needs
 
-returns : tie.Need-returns
-returns c = checked _ _ (search needs) (tells-no (λ p. omega (arith, p .few)))
-
 ranked-requires : tie.Need-ranked-requires
 ranked-requires c κs = search needs
 
+returns : tie.Need-returns
+returns c =
+    checked (search needs)
+    (tells-no (λ p. ⊎-elim (λ w. omega (arith, p .few)) (λ w. refuted (w .1 .ensures) (w .2 .taken) (p .ranked)) (c .if1 .came)))
+
+clients-from-requires : tie.Need-clients-from-requires
+clients-from-requires c κs = search needs
+
+header-requires-2 : tie.Need-header-requires-2
+header-requires-2 c κs = search needs
+
+free-rows-requires : tie.Need-free-rows-requires
+free-rows-requires c κs = search needs
+
 returns-2 : tie.Need-returns-2
-returns-2 c = checked _ _ (search needs) (tells-no (λ p. refuted (c .before .ranked .ensures) (c .if2 .taken) (p .ranked)))
-
-idle-requires : tie.Need-idle-requires
-idle-requires c κs = search needs
-
-returns-3 : tie.Need-returns-3
-returns-3 c =
-    let r = c .before .before in
-    let ranked = r .ranked .ensures .right (not-false _ (c .before .if2 .left)) in
-    checked _ _ (search needs)
-    (tells-so (λ i. record { few = search needs; ranked = ranked; idle = i }, λ p. p .idle) (rw (r .before .before .header .ensures) at (c .idle .ensures)))
+returns-2 c =
+    let f = c .before .before in
+    let r = f .before .before in
+    let free = rw (f .clients-from .ensures, c .before .header2 .ensures, r .before .before .header .ensures) at (c .free-rows .ensures) in
+    checked (search needs)
+    (tells-so (λ i. record { few = search needs; ranked = told (r .ranked .ensures) (f .before .if2 .left); free = i }, λ p. p .free) free)
 
 pub check-order-spec : {M : Type 1} → statement M
 check-order-spec =
@@ -38,8 +44,9 @@ check-order-spec =
     (tie.spec
     header-requires
     cast-clients
-    returns
     ranked-requires
-    returns-2
-    idle-requires
-    returns-3)
+    returns
+    clients-from-requires
+    header-requires-2
+    free-rows-requires
+    returns-2)

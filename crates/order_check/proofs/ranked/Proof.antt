@@ -1,19 +1,21 @@
--- What the walk asks of the rows left is what it asked of all: each turn takes the first part of it, and the end is the order's. Assumes nothing.
+-- Before each turn what is left to show of the order is what was to be shown at first.
 use borrow.Author.Needs.{needs}
-use borrow.Author.Tests.{not-false}
-use mathlib.Core.Logic.{_↔_, Iff·rfl}
+use mathlib.Core.Logic.{_↔_, Iff·rfl, ⊎-elim}
 use mathlib.Core.Path.{sym, _∙_}
 use Prim.Native.Nat.{_≤_}
 use native.Mathlib.Omega.{arith}
 use Rattle.table.specs.Regions.{regions}
-use Rattle.order_check.specs.Check.{Walk, Ranked}
-use Rattle.rules.proofs.Tells.{tells-no, refuted, tells-so}
-use Rattle.order_check.proofs.Turns.{walk-turn, walk-end, left-over}
+use Rattle.table.specs.Owners.{orderWords}
+use Rattle.order_check.specs.Check.{Follows, Ranked}
+use Rattle.rules.proofs.Tells.{tells-no, tells-so, refuted, told}
+use Rattle.free_check.specs.Listed.{Listed}
+use Rattle.free_check.proofs.Listed.{differ, alike, left-over}
+use Rattle.order_check.proofs.Turns.{turn, stop}
 use Rattle.order_check.proofs.ranked.Statement.{statement}
 use Rattle.order_check.proofs.ranked.Tie as tie
 
 abbrev Inv-loop : tie.InvT-loop
-Inv-loop t q rows left₀ at₀ prev₀ floor₀ left at prev floor = (floor ≤ q) × (Walk q (regions q t) left at prev floor ↔ Ranked q (regions q t))
+Inv-loop t q rows left₀ at₀ prev₀ floor₀ left at prev floor = (floor ≤ q) × (Listed left (Follows q (orderWords (regions q t)) at prev floor) ↔ Ranked q (orderWords (regions q t)))
 
 abbrev μ-loop : tie.MeasureT-loop
 μ-loop t q rows left₀ at₀ prev₀ floor₀ left at prev floor = left
@@ -32,8 +34,8 @@ loop-holds c = (search needs, rw (c .before .header .ensures, c .header2 .ensure
 
 returns : tie.Need-returns Inv-loop μ-loop
 returns c =
-    let s = walk-turn _ _ _ _ _ _ _ (c .before .before .loop .inv .1) (c .before .loop-test .taken) in
-    tells-no (λ p. let h = s .1 p .0 in omega arith)
+    let s = turn _ _ _ _ _ _ (c .before .before .loop .inv .1) (c .before .loop-test .taken) in
+    tells-no (λ w. let h = s .1 w .0 .0 in omega arith)
 
 client-requires : tie.Need-client-requires Inv-loop μ-loop
 client-requires c κs = search needs
@@ -41,18 +43,18 @@ client-requires c κs = search needs
 cast-count : tie.Need-cast-count Inv-loop μ-loop
 cast-count c = search needs
 
+client-requires-2 : tie.Need-client-requires-2 Inv-loop μ-loop
+client-requires-2 c κs = search needs
+
 joins-requires : tie.Need-joins-requires Inv-loop μ-loop
 joins-requires c κs = search needs
 
 returns-2 : tie.Need-returns-2 Inv-loop μ-loop
 returns-2 c =
-    let n = c .before .before in
+    let n = c .before .before .before in
     let t = n .before .before in
-    let s = walk-turn _ _ _ _ _ _ _ (t .before .loop .inv .1) (t .loop-test .taken) in
-    tells-no (λ p. refuted (c .before .joins .ensures) (c .if2 .taken) (rw (n .client .ensures) (s .1 p .1)))
-
-client-requires-2 : tie.Need-client-requires-2 Inv-loop μ-loop
-client-requires-2 c κs = search needs
+    let s = turn _ _ _ _ _ _ (t .before .loop .inv .1) (t .loop-test .taken) in
+    tells-no (λ w. refuted (c .before .joins .ensures) (c .if2 .taken) (rw (n .client .ensures) (s .1 w .0 .1)))
 
 sub-left : tie.Need-sub-left Inv-loop μ-loop
 sub-left c = search needs
@@ -62,36 +64,31 @@ loop-less c = search needs
 
 loop-again : tie.Need-loop-again Inv-loop μ-loop
 loop-again c =
-    let j = c .before .before in
-    let n = j .before in
+    let h = c .before .before in
+    let n = h .before in
     let t = n .before .before in
-    let s = walk-turn _ _ _ _ _ _ _ (t .before .loop .inv .1) (t .loop-test .taken) in
-    let w = j .joins .ensures .right (not-false _ (c .before .if2 .left)) in
-    (w .most, rw (c .client2 .ensures, n .client .ensures) (left-over s (n .before .if1 .left) (rw (n .client .ensures) at w)))
-
-returns-3 : tie.Need-returns-3 Inv-loop μ-loop
-returns-3 c =
-    let s = walk-end _ _ _ _ _ _ _ (c .before .before .loop .inv .1) (c .before .loop-test .left) in
-    tells-no (λ p. c .if3 .taken (s .1 p .0))
+    let s = turn _ _ _ _ _ _ (t .before .loop .inv .1) (t .loop-test .taken) in
+    let w = told (c .before .joins .ensures) (c .if2 .left) in
+    (w .most, rw (h .client2 .ensures, n .client .ensures) (left-over s (n .before .if1 .left, rw (n .client .ensures) at w)))
 
 header-requires-3 : tie.Need-header-requires-3 Inv-loop μ-loop
 header-requires-3 c κs = search needs
 
-returns-4 : tie.Need-returns-4 Inv-loop μ-loop
-returns-4 c =
-    let t = c .before .before .before in
-    let s = walk-end _ _ _ _ _ _ _ (t .before .loop .inv .1) (t .loop-test .left) in
-    tells-no (λ p. c .if4 .taken (c .before .header3 .ensures ∙ s .1 p .1))
+returns-3 : tie.Need-returns-3 Inv-loop μ-loop
+returns-3 c =
+    let t = c .before .before in
+    let s = stop _ _ _ _ _ _ (t .before .loop .inv .1) (t .loop-test .left) in
+    tells-no (λ w. ⊎-elim (λ a. a .taken (s .1 w .0 .0)) (λ a. differ (a .1 .taken) (c .before .header3 .ensures ∙ s .1 w .0 .1)) (c .if3 .came))
 
 ended-requires : tie.Need-ended-requires Inv-loop μ-loop
 ended-requires c κs = search needs
 
-returns-5 : tie.Need-returns-5 Inv-loop μ-loop
-returns-5 c =
-    let h = c .before .before in
-    let t = h .before .before in
-    let s = walk-end _ _ _ _ _ _ _ (t .before .loop .inv .1) (t .loop-test .left) in
-    tells-so (left-over s (h .before .if3 .left) (sym (h .header3 .ensures) ∙ c .before .if4 .left)) (c .ended .ensures)
+returns-4 : tie.Need-returns-4 Inv-loop μ-loop
+returns-4 c =
+    let e = c .before .before in
+    let t = e .before .before in
+    let s = stop _ _ _ _ _ _ (t .before .loop .inv .1) (t .loop-test .left) in
+    tells-so (left-over s (e .if3 .left, sym (e .before .header3 .ensures) ∙ alike (c .before .if4 .left))) (c .ended .ensures)
 
 pub ranked-spec : {M : Type 1} → statement M
 ranked-spec =
@@ -106,14 +103,13 @@ ranked-spec =
     returns
     client-requires
     cast-count
+    client-requires-2
     joins-requires
     returns-2
-    client-requires-2
     sub-left
     loop-less
     loop-again
-    returns-3
     header-requires-3
-    returns-4
+    returns-3
     ended-requires
-    returns-5)
+    returns-4)

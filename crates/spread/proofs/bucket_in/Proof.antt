@@ -1,7 +1,7 @@
--- The four entries are those of the rule (`sum-is`), and a remainder is below its divisor.
+-- The four entries are those of the rule, and each arm gives the remainder of their sum. Assumes nothing.
+use native.Mathlib.Omega.{arith}
 use borrow.Author.Needs.{needs}
-use native.Mathlib.Nat.{mod-lt}
-use Rattle.spread.proofs.Rule.{sum-is}
+use Rattle.spread.proofs.Rule.{low, rest-fits, as-it-is, less-q}
 use Rattle.spread.proofs.bucket_in.Statement.{statement}
 use Rattle.spread.proofs.bucket_in.Tie as tie
 
@@ -29,22 +29,46 @@ entry-requires-4 c κs = search needs
 cast-d : tie.Need-cast-d
 cast-d c = search needs
 
-add-result : tie.Need-add-result
-add-result c = search needs
+add-sum : tie.Need-add-sum
+add-sum c = search needs
 
-add-result-2 : tie.Need-add-result-2
-add-result-2 c = search needs
+add-sum-2 : tie.Need-add-sum-2
+add-sum-2 c = search needs
 
-add-result-3 : tie.Need-add-result-3
-add-result-3 c = search needs
+add-sum-3 : tie.Need-add-sum-3
+add-sum-3 c = search needs
 
-rem-result : tie.Need-rem-result
-rem-result c = search needs
+cast-x : tie.Need-cast-x
+cast-x c =
+    let a = c .before .before .before in
+    omega (arith, low _ _ (a .entry .ensures), low _ _ (c .before .before .entry2 .ensures), low _ _ (c .before .entry3 .ensures), low _ _ (c .entry4 .ensures))
+
+cast-x-2 : tie.Need-cast-x-2
+cast-x-2 c = search needs
+
+rem-x : tie.Need-rem-x
+rem-x c = search needs
+
+cast-x-3 : tie.Need-cast-x-3
+cast-x-3 c = let p = c .before .before .before .before .pre in rest-fits _ 0 _ (p .0) (p .1) .0
+
+mul-x : tie.Need-mul-x
+mul-x c = let p = c .before .before .before .before .pre in rest-fits _ 0 _ (p .0) (p .1) .1
+
+add-x : tie.Need-add-x
+add-x c = let p = c .before .before .before .before .pre in rest-fits _ _ _ (p .0) (p .1) .2
 
 returns : tie.Need-returns
 returns c =
-    let first = c .before .before .before in
-    (sum-is _ _ _ _ _ _ (first .entry .ensures) (c .before .before .entry2 .ensures) (c .before .entry3 .ensures) (c .entry4 .ensures), mod-lt _ (first .before .pre .0))
+    let d = c .before in
+    let a = d .before .before .before in
+    as-it-is _ _ _ _ _ (a .entry .ensures) (d .before .before .entry2 .ensures) (d .before .entry3 .ensures) (d .entry4 .ensures) _ (c .if1 .taken)
+
+returns-2 : tie.Need-returns-2
+returns-2 c =
+    let d = c .before in
+    let a = d .before .before .before in
+    less-q _ _ _ _ _ (a .entry .ensures) (d .before .before .entry2 .ensures) (d .before .entry3 .ensures) (d .entry4 .ensures) _ (a .before .pre .0) (c .if1 .left)
 
 pub bucket-in-spec : {M : Type 1} → statement M
 bucket-in-spec =
@@ -58,8 +82,14 @@ bucket-in-spec =
     cast-c
     entry-requires-4
     cast-d
-    add-result
-    add-result-2
-    add-result-3
-    rem-result
-    returns)
+    add-sum
+    add-sum-2
+    add-sum-3
+    cast-x
+    cast-x-2
+    rem-x
+    cast-x-3
+    mul-x
+    add-x
+    returns
+    returns-2)

@@ -1,46 +1,62 @@
 -- Each return is one test of the verdict. Assumes nothing.
-use mathlib.Core.Bool.{true, false}
-use mathlib.Core.Path.{sym, _∙_}
+use mathlib.Core.Path.{sym, ap, _∙_}
 use native.Mathlib.Omega.{arith}
 use lib.Seq.{length-take-le}
 use borrow.Author.Tests.{not-true, not-false}
 use Rattle.table.specs.Kind as kind
 use Rattle.rules.proofs.Decide.{range-decides}
-use Rattle.verdict.proofs.Tests.{under-header, other-mark, other-size, short-for-size, sized-part, marked-part, rest-told}
+use Rattle.answers.specs.declared.Opened.the-variants as opened
+use Rattle.verdict.proofs.Tests.{under-header, other-mark, other-places, short-for-places, sized-part, marked-part, not-sound, is-sound}
 use borrow.Author.Needs.{needs}
 use Rattle.verdict.proofs.of.Statement.{statement}
 use Rattle.verdict.proofs.of.Tie as tie
 
+of-requires : tie.Need-of-requires
+of-requires c κs = search needs
+
 returns : tie.Need-returns
-returns c = under-header _ (c .if1 .taken)
+returns c = ap opened.Refused (c .of .ensures) ∙ under-header _ (c .before .if1 .taken)
 
 shared-slice-read-if2 : tie.Need-shared-slice-read-if2
 shared-slice-read-if2 c = search needs
 
+of-requires-2 : tie.Need-of-requires-2
+of-requires-2 c κs = search needs
+
 returns-2 : tie.Need-returns-2
-returns-2 c = other-mark _ (c .before .before .if1 .left) (c .if2 .taken)
+returns-2 c = ap opened.Refused (c .of2 .ensures) ∙ other-mark _ (c .before .before .before .if1 .left) (c .before .if2 .taken)
 
 shared-slice-read-q : tie.Need-shared-slice-read-q
 shared-slice-read-q c = search needs
 
 cast-q : tie.Need-cast-q
-cast-q c = omega (arith, c .shared-slice-known3 .given kind.sizeAt)
+cast-q c = omega (arith, c .shared-slice-known3 .given kind.placesAt)
 
 in-range-requires : tie.Need-in-range-requires
 in-range-requires c κs = search needs
 
+of-requires-3 : tie.Need-of-requires-3
+of-requires-3 c κs = search needs
+
 returns-3 : tie.Need-returns-3
-returns-3 c = let i = c .before in other-size _ (i .before .before .before .before .if1 .left) (i .before .before .if2 .left) (sym (i .in-range .ensures) ∙ not-true _ (c .if3 .taken))
+returns-3 c =
+    let i = c .before .before in
+    ap opened.Refused (c .of3 .ensures)
+    ∙ other-places _ (i .before .before .before .before .if1 .left) (i .before .before .if2 .left) (sym (i .in-range .ensures) ∙ not-true _ (c .before .if3 .taken))
 
 size-requires : tie.Need-size-requires
 size-requires c κs = range-decides _ .0 (sym (c .before .in-range .ensures) ∙ not-false _ (c .if3 .left)) .1
 
+of-requires-4 : tie.Need-of-requires-4
+of-requires-4 c κs = search needs
+
 returns-4 : tie.Need-returns-4
 returns-4 c =
-    let z = c .before in
+    let z = c .before .before in
     let e = z .before in
     let i = e .before in
-    short-for-size _ (i .before .before .before .before .if1 .left) (i .before .before .if2 .left) (sym (i .in-range .ensures) ∙ not-false _ (e .if3 .left)) _ (z .size .ensures) (c .if4 .taken)
+    ap opened.Refused (c .of4 .ensures)
+    ∙ short-for-places _ (i .before .before .before .before .if1 .left) (i .before .before .if2 .left) (sym (i .in-range .ensures) ∙ not-false _ (e .if3 .left)) _ (z .size .ensures) (c .before .if4 .taken)
 
 slice-aggregate-whole : tie.Need-slice-aggregate-whole
 slice-aggregate-whole c = sym (length-take-le _ _ (search needs))
@@ -55,13 +71,17 @@ whole-requires c κs =
       ((range-decides _ .0 r .0, i .before .before .before .before .before .before .pre), marked-part _ (i .before .before .before .before .if1 .left) (i .before .before .if2 .left) r _ (z .size .ensures) (c .before .if4 .left)),
     )
 
+of-requires-5 : tie.Need-of-requires-5
+of-requires-5 c κs = search needs
+
 returns-5 : tie.Need-returns-5
 returns-5 c =
-    let w = c .before in
+    let w = c .before .before in
     let z = w .before .before .before in
     let e = z .before in
     let i = e .before in
-    rest-told _ (i .before .before .before .before .if1 .left) (i .before .before .if2 .left) (sym (i .in-range .ensures) ∙ not-false _ (e .if3 .left)) _ (z .size .ensures) (w .before .before .if4 .left) true (sym (c .if5 .taken) ∙ w .whole .ensures)
+    ap opened.Refused (c .of5 .ensures)
+    ∙ not-sound _ (i .before .before .before .before .if1 .left) (i .before .before .if2 .left) (sym (i .in-range .ensures) ∙ not-false _ (e .if3 .left)) _ (z .size .ensures) (w .before .before .if4 .left) (sym (not-true _ (c .before .if5 .taken)) ∙ w .whole .ensures)
 
 returns-6 : tie.Need-returns-6
 returns-6 c =
@@ -69,22 +89,27 @@ returns-6 c =
     let z = w .before .before .before in
     let e = z .before in
     let i = e .before in
-    rest-told _ (i .before .before .before .before .if1 .left) (i .before .before .if2 .left) (sym (i .in-range .ensures) ∙ not-false _ (e .if3 .left)) _ (z .size .ensures) (w .before .before .if4 .left) false (sym (c .if5 .left) ∙ w .whole .ensures)
+    is-sound _ (i .before .before .before .before .if1 .left) (i .before .before .if2 .left) (sym (i .in-range .ensures) ∙ not-false _ (e .if3 .left)) _ (z .size .ensures) (w .before .before .if4 .left) (sym (not-false _ (c .if5 .left)) ∙ w .whole .ensures)
 
 pub of-spec : {M : Type 1} → statement M
 of-spec =
     tie.close
     (tie.spec
+    of-requires
     returns
     shared-slice-read-if2
+    of-requires-2
     returns-2
     shared-slice-read-q
     cast-q
     in-range-requires
+    of-requires-3
     returns-3
     size-requires
+    of-requires-4
     returns-4
     slice-aggregate-whole
     whole-requires
+    of-requires-5
     returns-5
     returns-6)

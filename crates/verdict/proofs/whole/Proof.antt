@@ -16,7 +16,7 @@ check-order-requires : tie.Need-check-order-requires
 check-order-requires c κs = search needs
 
 returns-2 : tie.Need-returns-2
-returns-2 c = clients-fail _ (c .before .before .before .before .before .pre .1 .1 .1) (c .before .check-order .ensures) (not-true _ (c .if2 .taken))
+returns-2 c = clients-fail _ (c .before .before .before .before .before .pre .1 .1 .1) (c .before .check-order .ensures) (c .if2 .taken)
 
 header-requires : tie.Need-header-requires
 header-requires c κs = search needs
@@ -40,7 +40,7 @@ returns-4 c =
     let z = o .before .before in
     let s = z .before .before in
     items-tell _ (s .pre .1 .1 .1) _ (h .header .ensures) (s .pre .0) (s .pre .1 .0 .0) (s .pre .1 .1 .0) (told (z .zeros .ensures) (o .before .if1 .left))
-    (o .check-order .ensures .right (not-false _ (h .before .if2 .left))) (l .check-lookup .ensures) (not-false _ (c .before .if3 .left)) (c .check-items .ensures)
+    (told (o .check-order .ensures) (h .before .if2 .left)) (l .check-lookup .ensures) (not-false _ (c .before .if3 .left)) (c .check-items .ensures)
 
 pub whole-spec : {M : Type 1} → statement M
 whole-spec =

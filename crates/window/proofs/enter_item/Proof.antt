@@ -1,7 +1,7 @@
 -- `window::enter_item` meets its contract: to the back of both lists, then the row's two words. Assumes nothing.
-use Rattle.window.proofs.Writes.{enter-writes}
 use mathlib.Core.Path.{refl}
 use borrow.Author.Needs.{needs}
+use Rattle.window.proofs.Writes.{enter-writes}
 use Rattle.window.proofs.enter_item.Statement.{statement}
 use Rattle.window.proofs.enter_item.Tie as tie
 
@@ -17,8 +17,8 @@ insert-own-requires c κs =
 set-item-requires : tie.Need-set-item-requires
 set-item-requires c κs = search needs
 
-set-item-requires-2 : tie.Need-set-item-requires-2
-set-item-requires-2 c κs = search needs
+set-ticket-requires : tie.Need-set-ticket-requires
+set-ticket-requires c κs = search needs
 
 same-length : tie.Need-same-length
 same-length c = search needs
@@ -29,7 +29,7 @@ returns c =
     let k3 = k4 .before .before .before .before in
     let k2 = k3 .before .before .before .before in
     let k1 = k2 .before .before .before .before in
-    (enter-writes _ _ _ _ _ (k1 .push-item .ensures .0) (k2 .insert-own .ensures .0) (k3 .set-item .ensures .0) (k4 .set-item2 .ensures .0), k4 .set-item2 .ensures .1)
+    (enter-writes _ _ _ _ _ (k1 .push-item .ensures .0) (k2 .insert-own .ensures .0) (k3 .set-item .ensures .0) (k4 .set-ticket .ensures .0), k4 .set-ticket .ensures .1)
 
 pub enter-item-spec : {M : Type 1} → statement M
 enter-item-spec =
@@ -38,6 +38,6 @@ enter-item-spec =
     push-item-requires
     insert-own-requires
     set-item-requires
-    set-item-requires-2
+    set-ticket-requires
     same-length
     returns)

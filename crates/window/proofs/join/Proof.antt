@@ -1,8 +1,8 @@
 -- `window::join` meets its contract: there is a free row, the links of both ends can be followed, and the count fits. Assumes nothing.
 use native.Mathlib.Omega.{arith}
+use borrow.Author.Needs.{needs}
 use Rattle.window.proofs.Writes.{join-writes}
 use Rattle.window.proofs.Shown.{free-row, requests-before, newest-link, back-link}
-use borrow.Author.Needs.{needs}
 use Rattle.window.proofs.join.Statement.{statement}
 use Rattle.window.proofs.join.Tie as tie
 

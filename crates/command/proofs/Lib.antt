@@ -1,0 +1,2 @@
+-- Laws of a command's bytes.
+pub mod Reading

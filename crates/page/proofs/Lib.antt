@@ -1,0 +1,6 @@
+-- The laws that the proofs of this crate and of its callers cite.
+pub mod Decimal
+pub mod Put
+pub mod Begun
+mod Number
+mod Form

@@ -1,0 +1,2 @@
+-- What the batch printer prints.
+pub mod Printed
