@@ -27,3 +27,131 @@ fn turned_away(n: u32, m: u32) -> bool
     n == m
 }
 
+// Whether every place is taken.
+fn full(t: &[u32], q: usize) -> bool
+    requires { ⌜ Ready q (now t) ⌝ }
+    ensures { λ b. ⌜ b ≡ history.full (limitsOf (picture (now (t .entry)))) (plain (picture (now (t .entry)))) ⌝ }
+{
+    let requests = table::header(t, q, LinkedTable::REQUESTS_AT);
+    q <= requests as usize
+}
+
+// A request joins: `at` is where its client's id was sought, and n how many of that client's wait already.
+fn join(t: &mut [u32], q: usize, at: Sought, n: u32, id: u32, ticket: Ticket)
+    requires { ⌜ Ready q (now t) ⌝ }
+    requires { ⌜ Found (orderWords (regions q (now t)) .id) (clientRows (picture (now t))) id (at .row) × Home q id at ⌝ }
+    requires { ⌜ n ≡ history.countOf (plain (picture (now t))) id ⌝ }
+    requires { ⌜ 1 ≤ length (picture (now t) .freeItems) ⌝ }
+    ensures { λ _. ⌜ now (t .exit) ≡ draw (steps.join (picture (now (t .entry))) id ticket) ⌝ }
+{
+    let c = at.row;
+    if c == LinkedTable::NONE {
+        let new = order::admit(t, q, at, id);
+        window::join(t, q, new, ticket, LinkedTable::NONE);
+    } else {
+        let newest = window::newest(t, q, c);
+        order::raise(t, q, c, n);
+        window::join(t, q, c, ticket, newest);
+    }
+}
+
+// The request in item row r leaves, one of n that wait of the client in row c, and is the reply.
+fn leave(t: &mut [u32], q: usize, s: &[u32; 1024], c: u32, n: u32, r: u32) -> Request
+    requires { ⌜ Ready q (now t) ⌝ }
+    requires { ⌜ IsSpread (now s) ⌝ }
+    requires { ⌜ In r (itemRows (picture (now t))) × (itemIn r (picture (now t) .window) .client ≡ c) ⌝ }
+    requires { ⌜ n ≡ countOf (picture (now t) .window) c ⌝ }
+    ensures { λ x. ⌜ x ≡ asStruct (requestOf (picture (now (t .entry)) .clients) (itemIn r (picture (now (t .entry)) .window))) ⌝ }
+    ensures { λ _. ⌜ now (t .exit) ≡ draw (steps.leave (picture (now (t .entry))) (itemIn r (picture (now (t .entry)) .window))) ⌝ }
+{
+    let id = table::client(t, q, c, LinkedTable::ID);
+    let ticket = table::ticket(t, q, r);
+    if n == 1 {
+        order::dismiss(t, q, s, c);
+        window::leave_only(t, q, c, r);
+    } else {
+        order::lower(t, q, c, n);
+        window::leave_one(t, q, c, r);
+    }
+    Request { id, ticket }
+}
+
+// The front request leaves, where somebody waits.
+fn pass(t: &mut [u32], q: usize, s: &[u32; 1024]) -> Request
+    requires { ⌜ Ready q (now t) ⌝ }
+    requires { ⌜ IsSpread (now s) ⌝ }
+    requires { ⌜ 1 ≤ length (picture (now t) .window) ⌝ }
+    ensures { λ x. ⌜ x ≡ asStruct (requestOf (picture (now (t .entry)) .clients) (steps.frontItem (picture (now (t .entry)) .window))) ⌝ }
+    ensures { λ _. ⌜ now (t .exit) ≡ draw (steps.leave (picture (now (t .entry))) (steps.frontItem (picture (now (t .entry)) .window))) ⌝ }
+{
+    let r = table::header(t, q, LinkedTable::FRONT_AT);
+    let c = table::item(t, q, r, LinkedTable::OWNER);
+    let n = table::client(t, q, c, LinkedTable::COUNT);
+    leave(t, q, s, c, n, r)
+}
+
+// Arrive: the request joins; where the window is full, the newest of the heaviest client leaves first, or the arriving client is turned away.
+pub fn arrive(t: &mut [u32], q: usize, s: &[u32; 1024], id: u32, ticket: Ticket) -> Choice
+    requires { ⌜ Ready q (now t) ⌝ }
+    requires { ⌜ IsSpread (now s) ⌝ }
+    ensures reply { λ x. ⌜ x ≡ asChoice (history.choice (limitsOf (picture (now (t .entry)))) (plain (picture (now (t .entry)))) id) ⌝ }
+    ensures words { λ _. ⌜ now (t .exit) ≡ draw (steps.arrived (picture (now (t .entry))) id ticket) ⌝ }
+{
+    let at = lookup::find(t, q, s, id);
+    let n = questions::count_in(t, q, at.row);
+    if !full(t, q) {
+        join(t, q, at, n, id, ticket);
+        return Choice::Joined;
+    }
+    let c = table::header(t, q, LinkedTable::HEAVIEST_AT);
+    let m = table::client(t, q, c, LinkedTable::COUNT);
+    if turned_away(n, m) {
+        return Choice::Turned;
+    }
+    let r = window::newest(t, q, c);
+    let gone = leave(t, q, s, c, m, r);
+    // the client that lost a request is another one, so what was found of this one is still right
+    join(t, q, at, n, id, ticket);
+    Choice::Evicted(gone)
+}
+
+// A request joins, its client being sought first.
+fn take_in(t: &mut [u32], q: usize, s: &[u32; 1024], id: u32, ticket: Ticket)
+    requires { ⌜ Ready q (now t) ⌝ }
+    requires { ⌜ IsSpread (now s) ⌝ }
+    requires { ⌜ 1 ≤ length (picture (now t) .freeItems) ⌝ }
+    ensures { λ _. ⌜ now (t .exit) ≡ draw (steps.join (picture (now (t .entry))) id ticket) ⌝ }
+{
+    let at = lookup::find(t, q, s, id);
+    let n = questions::count_in(t, q, at.row);
+    join(t, q, at, n, id, ticket);
+}
+
+// Slide: where the window is full, the front request leaves first; then the new one joins.
+pub fn slide(t: &mut [u32], q: usize, s: &[u32; 1024], id: u32, ticket: Ticket) -> Left
+    requires { ⌜ Ready q (now t) ⌝ }
+    requires { ⌜ IsSpread (now s) ⌝ }
+    ensures reply { λ x. ⌜ x ≡ asLeft (history.slideLeft (limitsOf (picture (now (t .entry)))) (plain (picture (now (t .entry))))) ⌝ }
+    ensures words { λ _. ⌜ now (t .exit) ≡ draw (steps.slid (picture (now (t .entry))) id ticket) ⌝ }
+{
+    if !full(t, q) {
+        take_in(t, q, s, id, ticket);
+        return Left::Nothing;
+    }
+    let gone = pass(t, q, s);
+    take_in(t, q, s, id, ticket);
+    Left::One(gone)
+}
+
+// Serve: the front request leaves and is the reply.
+pub fn serve(t: &mut [u32], q: usize, s: &[u32; 1024]) -> Left
+    requires { ⌜ Ready q (now t) ⌝ }
+    requires { ⌜ IsSpread (now s) ⌝ }
+    ensures reply { λ x. ⌜ x ≡ asLeft (history.served (plain (picture (now (t .entry))))) ⌝ }
+    ensures words { λ _. ⌜ now (t .exit) ≡ draw (steps.served (picture (now (t .entry)))) ⌝ }
+{
+    if table::header(t, q, LinkedTable::REQUESTS_AT) == 0 {
+        return Left::Nothing;
+    }
+    Left::One(pass(t, q, s))
+}
