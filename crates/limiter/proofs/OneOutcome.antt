@@ -5,11 +5,11 @@ use Prim.Native.Nat.{ℕ}
 use contract.Lifetimes.{Lfts}
 use denote.Ref.{now}
 use Rattle.rules.proofs.OneOutcome.{OneOutcome, one-outcome, both}
-use Rattle.questions.specs.declared.Listed.{Listed}
-use Rattle.steps.specs.declared.Arrived.{Arrived}
-use Rattle.steps.specs.declared.Slid.{Slid}
-use Rattle.steps.specs.declared.Served.{Served}
-use Rattle.run.specs.declared.Ran.{Ran}
+use Rattle.answers.specs.declared.Listed.{Listed}
+use Rattle.answers.specs.declared.Arrived.{Arrived}
+use Rattle.answers.specs.declared.Slid.{Slid}
+use Rattle.answers.specs.declared.Served.{Served}
+use Rattle.answers.specs.declared.Ran.{Ran}
 use Rattle.limiter.proofs.heaviest.Reads as heaviest
 use Rattle.limiter.proofs.lightest.Reads as lightest
 use Rattle.limiter.proofs.count.Reads as count

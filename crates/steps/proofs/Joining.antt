@@ -23,6 +23,7 @@ use Rattle.rules.proofs.Look.{find, look-same}
 use Rattle.rules.proofs.Right.{counts-one, places}
 use Rattle.rules.proofs.Right as right
 use Rattle.rules.proofs.Held.{own-few, free-owns}
+use Rattle.rules.proofs.Plain.{count-plain}
 use Rattle.rules.proofs.Settle.{Step, count-more}
 use Rattle.rules.proofs.Moves.{join-step, join-known, join-new}
 use Rattle.rules.proofs.Moved.{counts-put}
@@ -76,6 +77,11 @@ module _ {q : ℕ} {t : List ℕ} (y : Ready q t) (id ticket : ℕ) (room : 1 �
     pub known-client : Drawn q t (order.Listed q c (λ m. m < q))
     known-client =
         record { regs = R; drawn = whole-words y; holds = record { rows = clientRows P; count = n; free = P .freeClients; ordered = ready-ordered y; there = there; counts = less } }
+
+    -- its count, by its id
+    pub known-count : {m : ℕ} → idOf (P .clients) c ≡ id → m ≡ history.countOf (plain P) id → m ≡ clientWord t q c kind.count
+    known-count name e =
+        e ∙ ap (history.countOf (plain P)) (sym name) ∙ count-plain (P .clients) (ready-right y .ids) c there (P .window) (ready-right y .owners) ∙ sym (ready-ordered y .counted c there)
 
     module _ {e : ℕ} (he : e ≡ clientWord t q c kind.newest) where
       newest : e ≡ lastOr kind.none (ownRows c (P .window))

@@ -3,3 +3,6 @@ pub mod Others
 pub mod Clients
 pub mod Joining
 pub mod Leaving
+pub mod Choices
+pub mod Reading
+pub mod Still

@@ -1,0 +1,100 @@
+-- An arriving client that is not turned away is not the one that loses a request: what the lookup found of it, and its count, are still right.
+use mathlib.Core.List.{List, [], _∷_}
+use mathlib.Core.Bool.{Bool, true, false, cond, _&&_}
+use mathlib.Core.Path.{_≡_, refl, sym, ap, _∙_, subst}
+use Prim.Native.Nat.{ℕ, suc, _≤_}
+use native.Mathlib.Omega.{arith}
+use lib.Dec.{eqb}
+use lib.ListN.{length}
+use borrow.Author.Tests.{eqb-true, ne-eqb}
+use Rattle.table.specs.Kind as kind
+use Rattle.table.specs.Regions.{regions}
+use Rattle.table.specs.Owners.{orderWords}
+use Rattle.rules.specs.Rows.{lastOr, In}
+use Rattle.rules.specs.History.{Waiting, evicted, count, countOf, newest, withoutNewest, heaviestClient, largestCount, turnedAway, choice}
+use Rattle.rules.specs.History as history
+use Rattle.rules.specs.Picture.{Item, Picture, item, clientRow, clientId, clientRows, idOf, requestOf, limitsOf, plain}
+use Rattle.rules.specs.Steps.{newestItem, join, leave, arrived}
+use Rattle.rules.specs.Draw.{draw}
+use Rattle.rules.specs.Sound.{picture}
+use Rattle.rules.specs.Ready.{Ready}
+use Rattle.rules.proofs.Rule.{stays-light}
+use Rattle.rules.proofs.Leaving.{heaviest-is, newest-is, evicted-request, evict-step}
+use Rattle.rules.proofs.Staying.{Staying, leave-staying}
+use Rattle.rules.proofs.Ready.{ready-right}
+use Rattle.lookup.specs.declared.Sought.{Sought}
+use Rattle.lookup.specs.Promise.{Found, Home, Seeks}
+use Rattle.answers.specs.Engine.{asStruct, asChoice}
+use Rattle.answers.specs.declared.Request.{Request}
+use Rattle.answers.specs.declared.Choice.the-variants as choices
+use Rattle.questions.proofs.Kept.{ready-found, found-client}
+use Rattle.steps.proofs.Clients.{names}
+use Rattle.steps.proofs.Choices.{arrived-by, then-ready, then-picture, then-room, then-joined}
+
+-- the newest request of another client is none of i's
+count-without : (i h : ℕ) → (i ≡ h → ⊥) → (w : List history.Request) → count i (withoutNewest h w) ≡ count i w
+count-without i h n [] = refl
+count-without i h n (r ∷ w) = go (eqb (r .id) h) refl (eqb (count h w) 0) (count-without i h n w)
+  where
+    go : (a : Bool) → eqb (r .id) h ≡ a → (b : Bool) → count i (withoutNewest h w) ≡ count i w → count i (cond (a && b) w (r ∷ withoutNewest h w)) ≡ cond (eqb (r .id) i) (suc (count i w)) (count i w)
+    go true e true ih = rw (ne-eqb (r .id) i (λ f. n (sym f ∙ eqb-true (r .id) h e)))
+    go true e false ih = ap (λ (m : ℕ). cond (eqb (r .id) i) (suc m) m) ih
+    go false e b ih = ap (λ (m : ℕ). cond (eqb (r .id) i) (suc m) m) ih
+
+-- who is not turned away is not the heaviest
+not-heaviest : (s : Waiting) (i : ℕ) → turnedAway true (count i (s .window)) (largestCount s) ≡ false → i ≡ heaviestClient s → ⊥
+not-heaviest s i away e =
+    let same : count i (s .window) ≡ largestCount s = ap (λ (x : ℕ). count x (s .window)) e in
+    let less = stays-light (count i (s .window)) (largestCount s) (omega (arith, same)) away in
+    omega (arith, same, less)
+
+module _ {q : ℕ} {t : List ℕ} (y : Ready q t) (h : 1 ≤ length (picture t .window)) where
+  abbrev P : Picture
+  P = picture t
+
+  abbrev gone : Item
+  gone = newestItem (lastOr kind.none (clientRows P)) (item 0 0 0) (P .window)
+
+  -- after the newest item of the heaviest client left, where client id is not turned away
+  module _ {a : List ℕ} (drawn : a ≡ draw (leave P gone)) (id : ℕ) (away : turnedAway true (count id (plain P .window)) (largestCount (plain P)) ≡ false) where
+    ready : Ready q a
+    ready = then-ready gone y (evict-step P (ready-right y) h) drawn
+
+    is : picture a ≡ leave P gone
+    is = then-picture gone y (evict-step P (ready-right y) h) drawn
+
+    staying : Staying (gone .client) (P .clients) (picture a .clients)
+    staying =
+        subst (λ (Q : Picture). Staying (gone .client) (P .clients) (Q .clients)) (sym is)
+        (leave-staying P gone (ready-right y) (subst (λ (c : ℕ). In c (clientRows P)) (sym (newest-is P (ready-right y) h .client)) (heaviest-is P (ready-right y) h .0)))
+
+    other : id ≡ idOf (P .clients) (gone .client) → ⊥
+    other e = not-heaviest (plain P) id away (e ∙ ap (idOf (P .clients)) (newest-is P (ready-right y) h .client) ∙ heaviest-is P (ready-right y) h .1)
+
+    still-found : {c : ℕ} → Found (orderWords (regions q t) .id) (clientRows P) id c → Found (orderWords (regions q a) .id) (clientRows (picture a)) id c
+    still-found {c} f =
+        record {
+          row = λ n. let (i, name) = found-client y f n in
+              let j = staying .stays c i (λ e. other (sym name ∙ ap (idOf (P .clients)) e)) in
+              (j, names ready c j ∙ staying .named c j ∙ name);
+          absent = λ n s j e. f .absent n s (staying .stood s j) (names y s (staying .stood s j) ∙ sym (staying .named s j) ∙ sym (names ready s j) ∙ e);
+        }
+
+    still-counted : {n : ℕ} → n ≡ countOf (plain P) id → n ≡ countOf (plain (picture a)) id
+    still-counted e =
+        e ∙ sym (count-without id (heaviestClient (plain P)) (not-heaviest (plain P) id away) (plain P .window))
+        ∙ ap (λ (s : Waiting). countOf s id) (sym (ap plain is ∙ evict-step P (ready-right y) h .plain))
+
+    -- what the request that joins asks
+    pub still-asks : {at : Sought} {n : ℕ} → Seeks q t id at → n ≡ countOf (plain P) id
+        → Ready q a × ((Found (orderWords (regions q a) .id) (clientRows (picture a)) id (at .row) × Home q id at) × ((n ≡ countOf (plain (picture a)) id) × (1 ≤ length (picture a .freeItems))))
+    still-asks s e =
+        (ready, ((still-found (ready-found y s), s .home), (still-counted e, then-room gone y (evict-step P (ready-right y) h) drawn)))
+
+    -- and what the arrival comes to
+    pub still-arrives : {x : Request} {u : List ℕ} (ticket : ℕ) → choice (limitsOf P) (plain P) id ≡ evicted (newest (heaviestClient (plain P)) (plain P .window))
+        → x ≡ asStruct (requestOf (P .clients) gone) → u ≡ draw (join (picture a) id ticket)
+        → (choices.Evicted x ≡ asChoice (choice (limitsOf P) (plain P) id)) × (u ≡ draw (arrived P id ticket))
+    still-arrives ticket c told d =
+        (ap choices.Evicted (told ∙ ap asStruct (evicted-request P (ready-right y) h)) ∙ sym (ap asChoice c),
+        then-joined gone y (evict-step P (ready-right y) h) drawn id ticket d ∙ ap draw (sym (arrived-by P id ticket c)))
