@@ -1,14 +1,16 @@
--- How many words each step of the order alters at most, whatever the regions hold. (The lookup's are not among them.)
+-- How many words each step of the order alters at most, whatever the regions hold; a client that comes or goes with the lookup's, of which two change.
 use Prim.Native.Nat.{ℕ, _+_, _-_, _≤_}
 use lib.Dec.{lit<}
 use Rattle.table.specs.Kind as kind
 use Rattle.table.specs.Regions.{Regions, setClient, setCount}
+use Rattle.table.specs.Owners.{LookupWords, withLookup}
 use Rattle.table.proofs.Few.{Few, few-then, few-header, few-client, few-count}
 use Rattle.links.specs.Strands.{theOrder, insertIn}
 use Rattle.links.specs.Pools.{freeClients, takeFrom}
 use Rattle.links.proofs.Strands.{order-lens}
-use Rattle.links.proofs.Few.{few-unlink, few-insert, few-take}
+use Rattle.links.proofs.Few.{few-so, few-unlink, few-insert, few-take}
 use Rattle.order.specs.Moves.{leaveGroup, takeOut, after, putIn, raiseAfter, raised, lowerAfter, lowered, takeRow, admitted, freeRow, dismissed}
+use Rattle.order.proofs.Together.{dismissed-beside}
 
 module _ (q : ℕ) (hq : q ≤ kind.largest) where
   -- the two ends of a group
@@ -31,7 +33,7 @@ module _ (q : ℕ) (hq : q ≤ kind.largest) where
   pub few-lowered : (r : ℕ) (R : Regions) → Few q 11 R (lowered r R)
   few-lowered r R = few-then q R (takeOut r R) (lowered r R) (few-out r R) (few-in r (R .client r kind.count - 1) (lowerAfter r R) (takeOut r R))
 
-  pub few-admitted : (id : ℕ) (R : Regions) → Few q 10 R (admitted id R)
+  few-admitted : (id : ℕ) (R : Regions) → Few q 10 R (admitted id R)
   few-admitted id R =
       let r : ℕ = R .header kind.freeClientAt in
       let A : Regions = takeFrom freeClients R in
@@ -49,8 +51,17 @@ module _ (q : ℕ) (hq : q ≤ kind.largest) where
       (few-then q R C D (few-then q R B C (few-then q R A B (few-client q R r kind.id 0 (lit< tt)) (few-client q A r kind.count 0 (lit< tt))) (few-client q B r kind.lighter 0 (lit< tt))) (few-client q C r kind.heavier _ (lit< tt)))
       (few-header q D 0 kind.freeClientAt r (lit< tt))
 
-  pub few-dismissed : (r : ℕ) (R : Regions) → Few q 10 R (dismissed r R)
+  few-dismissed : (r : ℕ) (R : Regions) → Few q 10 R (dismissed r R)
   few-dismissed r R =
       let A : Regions = takeOut r R in
       let B : Regions = freeRow r A in
       few-then q R B (dismissed r R) (few-then q R A B (few-out r R) (few-freed r A)) (few-header q B 0 kind.clientsAt _ (lit< tt))
+
+  -- with the lookup's words
+  pub few-come : (L : LookupWords) (id : ℕ) (R : Regions) → Few q 2 (admitted id R) (withLookup L (admitted id R)) → Few q 12 R (withLookup L (admitted id R))
+  few-come L id R near = few-then q R (admitted id R) (withLookup L (admitted id R)) (few-admitted id R) near
+
+  pub few-gone : (L : LookupWords) (r : ℕ) (R : Regions) → Few q 2 R (withLookup L R) → Few q 12 R (withLookup L (dismissed r R))
+  few-gone L r R near =
+      few-so q R (dismissed r (withLookup L R)) (withLookup L (dismissed r R)) (dismissed-beside q L r R)
+      (few-then q R (withLookup L R) (dismissed r (withLookup L R)) near (few-dismissed r (withLookup L R)))

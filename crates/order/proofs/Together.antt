@@ -86,6 +86,11 @@ module _ {q : ℕ} {t : List ℕ} (D : Drawn q t (Vacant q)) where
 
 -- a client goes
 
+-- the lookup's words and the order's step beside each other
+pub dismissed-beside : (q : ℕ) (L : LookupWords) (r : ℕ) (R : Regions) → words q (dismissed r (withLookup L R)) ≡ words q (withLookup L (dismissed r R))
+dismissed-beside q L r R =
+    same-clients q (dismissed r (withLookup L R)) (withLookup L (dismissed r R)) refl refl refl refl (λ i. (refl, (refl, (refl, (refl, (refl, (refl, (refl, tt))))))))
+
 module _ {q : ℕ} {t : List ℕ} {r : ℕ} {F : ℕ → Type 0} (D : Drawn q t (Listed q r F)) {a : List ℕ} (E : Leaves q t a r) where
   pub still-listed : Drawn q a (Listed q r F)
   still-listed = record { regs = withLookup (E .lookup) (D .regs); drawn = E .writes .drawn (D .regs) (D .drawn); holds = D .holds }
@@ -102,8 +107,7 @@ module _ {q : ℕ} {t : List ℕ} {r : ℕ} {F : ℕ → Type 0} (D : Drawn q t 
         let L : LookupWords = E .lookup in
         record {
           lookup = L;
-          writes = drawn-so (then (then (then (E .writes) x) y) z)
-              (λ R. same-clients q (oneLess (freeRow r (takeOut r (withLookup L R)))) (withLookup L (dismissed r R)) refl refl refl refl (λ i. (refl, (refl, (refl, (refl, (refl, (refl, (refl, tt)))))))));
+          writes = drawn-so (then (then (then (E .writes) x) y) z) (dismissed-beside q L r);
           keeps = λ R d cs C k i.
               let ids : ℕ → ℕ = orderWords R .id in
               let gone : NotIn r (without r cs) = notin r (without r cs)

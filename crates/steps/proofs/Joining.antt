@@ -120,7 +120,7 @@ module _ {q : ℕ} {t : List ℕ} (y : Ready q t) (id ticket : ℕ) (room : 1 �
         let there = put-there clientRow (f .put) in
         absent .absent refl (f .one .row) there (names y (f .one .row) there ∙ look-same clientRow clientId (f .put) (right.clients-distinct P (ready-right y)) ∙ f .is))
 
-    first-low : first < q
+    pub first-low : first < q
     first-low =
         let o = ready-ordered y in
         in-below q (P .freeClients) (below-right q (clientRows P) (P .freeClients) (o .each .below)) first (head-some kind.none (P .freeClients) free-room)

@@ -6,3 +6,4 @@ pub mod Leaving
 pub mod Choices
 pub mod Reading
 pub mod Still
+pub mod Few
