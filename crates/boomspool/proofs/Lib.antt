@@ -1,5 +1,2 @@
--- What the calls' proofs share, and that each promise admits one outcome.
-pub mod Clauses
-pub mod Replies
-pub mod Runs
+-- That each promise admits one outcome.
 pub mod OneOutcome

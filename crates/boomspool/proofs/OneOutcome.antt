@@ -1,15 +1,15 @@
 -- The promise of each call admits one outcome: one reply, and one content of what was lent by `&mut`. (What is lent by `&` is not written.)
--- `Post` is the contract's own clauses, as the check reads them. A function that is walked by hand has no such reading, so `boomspool_run_day` is not here: its three clauses are equations of the reply, the table and the day record.
+-- `Post` is the contract's own clauses, as the check reads them.
 use mathlib.Core.List.{List}
 use Prim.Native.Nat.{ℕ}
 use contract.Lifetimes.{Lfts}
 use denote.Ref.{now}
 use Rattle.rules.proofs.OneOutcome.{OneOutcome, one-outcome, both}
-use Rattle.run.specs.declared.Ran.{Ran}
 use Rattle.boomspool.specs.declared.BoomspoolArrived.{BoomspoolArrived}
 use Rattle.boomspool.specs.declared.BoomspoolSlid.{BoomspoolSlid}
 use Rattle.boomspool.specs.declared.BoomspoolServed.{BoomspoolServed}
 use Rattle.boomspool.specs.declared.BoomspoolListed.{BoomspoolListed}
+use Rattle.boomspool.specs.declared.BoomspoolRan.{BoomspoolRan}
 use Rattle.boomspool.proofs.boomspool_words.Reads as words
 use Rattle.boomspool.proofs.boomspool_lay_out.Reads as lay-out
 use Rattle.boomspool.proofs.boomspool_arrive.Reads as arrive
@@ -21,6 +21,7 @@ use Rattle.boomspool.proofs.boomspool_count.Reads as count
 use Rattle.boomspool.proofs.boomspool_oldest.Reads as oldest
 use Rattle.boomspool.proofs.boomspool_newest.Reads as newest
 use Rattle.boomspool.proofs.boomspool_run.Reads as run
+use Rattle.boomspool.proofs.boomspool_run_day.Reads as run-day
 
 pub words-once : (κs : Lfts 0) → OneOutcome (words.Post κs) (λ r s. r)
 words-once κs = one-outcome _ _ _ (λ a r s p. p)
@@ -52,5 +53,8 @@ oldest-once κs = one-outcome _ _ _ (λ a r s p. p .0)
 pub newest-once : (κs : Lfts 1) → OneOutcome (newest.Post κs) (λ r s. r)
 newest-once κs = one-outcome _ _ _ (λ a r s p. p .0)
 
-pub run-once : (κs : Lfts 2) → OneOutcome {O = Ran × List ℕ} (run.Post κs) (λ r s. (r, now (s .0)))
-run-once κs = one-outcome _ _ _ (λ a r s p. both (p .0) (p .1))
+pub run-once : (κs : Lfts 2) → OneOutcome {O = BoomspoolRan × List ℕ} (run.Post κs) (λ r s. (r, now (s .0)))
+run-once κs = one-outcome _ _ _ (λ a r s p. both (p .0) (p .1 .1))
+
+pub run-day-once : (κs : Lfts 3) → OneOutcome {O = BoomspoolRan × (List ℕ × List ℕ)} (run-day.Post κs) (λ r s. (r, (now (s .0), now (s .1 .1 .1 .0))))
+run-day-once κs = one-outcome _ _ _ (λ a r s p. both (p .0) (both (p .1 .1 .0) (p .1 .1 .1)))

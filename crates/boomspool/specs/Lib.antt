@@ -1,3 +1,2 @@
--- What the C server's calls promise: document 01's numbers, field by field, and the day record.
+-- What the C server's calls promise: document 01's numbers, field by field.
 pub mod Replies
-pub mod Runs

@@ -8,15 +8,24 @@ ghost use Rattle.table.specs.Regions.{altered};
 ghost use Rattle.rules.specs.History as history;
 ghost use Rattle.rules.specs.Steps as steps;
 ghost use Rattle.rules.specs.Verdict.{layOutNumber, laidOut, afterwards};
+ghost use Rattle.answers.specs.Numbers.{arrivedNumbers, slidNumbers, servedNumbers, listedNumbers, countedNumbers, toldNumbers, ranNumbers};
+ghost use Rattle.day.specs.Day.{afterRun};
 ghost use Rattle.limiter.specs.Lent.{waitingIn, numbersOf};
 ghost use Rattle.limiter.specs.Questions.{listedAnswer, listedOut, listedNumber, countedAnswer, countedNumber, toldAnswer, toldNumber};
 ghost use Rattle.limiter.specs.Calls.{arriveChoice, arriveAnswer, arriveNumber, choiceValues, slideLeaves, slideAnswer, slideNumber, slideValues, serveAnswer, serveNumber, serveValues};
 ghost use Rattle.limiter.specs.Runs.{runAnswer, runWords};
-ghost use Rattle.boomspool.specs.Runs.{runDay};
-ghost use Rattle.boomspool.specs.Replies.{wordsOf, arrivedStruct, arrivedFields, slidStruct, slidFields, servedStruct, servedFields, listedStruct, listedFields, countedStruct, countedFields, toldStruct, toldFields};
+ghost use Rattle.boomspool.specs.Replies.{wordsOf, arrivedStruct, arrivedFields, slidStruct, slidFields, servedStruct, servedFields, listedStruct, listedFields, countedStruct, countedFields, toldStruct, toldFields, reportStruct, ranStruct, ranFields};
+use answers::Arrived;
+use answers::Counted;
+use answers::Listed;
+use answers::Ran;
+use answers::Report;
+use answers::Served;
+use answers::Slid;
+use answers::Told;
 use day::Day;
-use answers::{Arrived, Counted, Listed, Ran, Report, Served, Slid, Told};
-use table::{LinkedTable, Ticket};
+use table::LinkedTable;
+use table::Ticket;
 
 // The reply to an arrival: what happened, and the request that left for it.
 #[repr(C)]
@@ -80,7 +89,8 @@ pub struct BoomspoolRan {
 
 // An answer of the limiter as the struct that C gets, for each call.
 fn arrived_reply(a: Arrived) -> BoomspoolArrived
-    ensures { λ r. ⌜ r ≡ arrivedStruct a ⌝ }
+    ensures reply { λ r. ⌜ r ≡ arrivedStruct a ⌝ }
+    ensures numbers { λ r. ⌜ arrivedFields r ≡ arrivedNumbers a ⌝ }
 {
     match a {
         Arrived::Joined => BoomspoolArrived {
@@ -111,7 +121,8 @@ fn arrived_reply(a: Arrived) -> BoomspoolArrived
 }
 
 fn slid_reply(a: Slid) -> BoomspoolSlid
-    ensures { λ r. ⌜ r ≡ slidStruct a ⌝ }
+    ensures reply { λ r. ⌜ r ≡ slidStruct a ⌝ }
+    ensures numbers { λ r. ⌜ slidFields r ≡ slidNumbers a ⌝ }
 {
     match a {
         Slid::Joined => BoomspoolSlid {
@@ -136,7 +147,8 @@ fn slid_reply(a: Slid) -> BoomspoolSlid
 }
 
 fn served_reply(a: Served) -> BoomspoolServed
-    ensures { λ r. ⌜ r ≡ servedStruct a ⌝ }
+    ensures reply { λ r. ⌜ r ≡ servedStruct a ⌝ }
+    ensures numbers { λ r. ⌜ servedFields r ≡ servedNumbers a ⌝ }
 {
     match a {
         Served::Left(first) => BoomspoolServed {
@@ -153,7 +165,8 @@ fn served_reply(a: Served) -> BoomspoolServed
 }
 
 fn listed_reply(a: Listed) -> BoomspoolListed
-    ensures { λ r. ⌜ r ≡ listedStruct a ⌝ }
+    ensures reply { λ r. ⌜ r ≡ listedStruct a ⌝ }
+    ensures numbers { λ r. ⌜ listedFields r ≡ listedNumbers a ⌝ }
 {
     match a {
         Listed::Number(n) => BoomspoolListed {
@@ -168,7 +181,8 @@ fn listed_reply(a: Listed) -> BoomspoolListed
 }
 
 fn counted_reply(a: Counted) -> BoomspoolCounted
-    ensures { λ r. ⌜ r ≡ countedStruct a ⌝ }
+    ensures reply { λ r. ⌜ r ≡ countedStruct a ⌝ }
+    ensures numbers { λ r. ⌜ countedFields r ≡ countedNumbers a ⌝ }
 {
     match a {
         Counted::Number(n) => BoomspoolCounted {
@@ -183,7 +197,8 @@ fn counted_reply(a: Counted) -> BoomspoolCounted
 }
 
 fn told_reply(a: Told) -> BoomspoolTold
-    ensures { λ r. ⌜ r ≡ toldStruct a ⌝ }
+    ensures reply { λ r. ⌜ r ≡ toldStruct a ⌝ }
+    ensures numbers { λ r. ⌜ toldFields r ≡ toldNumbers a ⌝ }
 {
     match a {
         Told::Ticket(n) => BoomspoolTold {
@@ -214,7 +229,8 @@ fn reported(r: Report) -> BoomspoolRan
 
 // A refused run reports its number in the stop's place, and nothing carried out.
 fn ran_reply(a: Ran) -> BoomspoolRan
-    ensures { λ r. ⌜ r ≡ ranStruct a ⌝ }
+    ensures reply { λ r. ⌜ r ≡ ranStruct a ⌝ }
+    ensures numbers { λ r. ⌜ ranFields r ≡ ranNumbers a ⌝ }
 {
     match a {
         Ran::Reported(r) => reported(r),
@@ -336,6 +352,7 @@ pub extern "C" fn boomspool_newest(t: &[u32], id: u32) -> BoomspoolTold
 #[no_mangle]
 pub extern "C" fn boomspool_run(t: &mut [u32], commands: &[u8], budget: u64) -> BoomspoolRan
     ensures reply { λ r. ⌜ r ≡ ranStruct (runAnswer budget (now (commands .entry)) (now (t .entry))) ⌝ }
+    ensures numbers { λ r. ⌜ ranFields r ≡ ranNumbers (runAnswer budget (now (commands .entry)) (now (t .entry))) ⌝ }
     ensures words { λ _. ⌜ now (t .exit) ≡ runWords budget (now (commands .entry)) (now (t .entry)) ⌝ }
 {
     ran_reply(limiter::run(t, commands, budget))
@@ -347,9 +364,10 @@ pub extern "C" fn boomspool_run_day(
     t: &mut [u32],
     commands: &[u8],
     budget: u64,
-    day: &mut Day,
+    day: &mut [u64; Day::TOTALS],
 ) -> BoomspoolRan
     ensures reply { λ r. ⌜ r ≡ ranStruct (runAnswer budget (now (commands .entry)) (now (t .entry))) ⌝ }
+    ensures numbers { λ r. ⌜ ranFields r ≡ ranNumbers (runAnswer budget (now (commands .entry)) (now (t .entry))) ⌝ }
     ensures words { λ _. ⌜ now (t .exit) ≡ runWords budget (now (commands .entry)) (now (t .entry)) ⌝ }
     ensures totals { λ _. ⌜ now (day .exit) ≡ afterRun (now (day .entry)) (runAnswer budget (now (commands .entry)) (now (t .entry))) ⌝ }
 {

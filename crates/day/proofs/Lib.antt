@@ -1,2 +1,3 @@
--- Laws of the day record.
+-- Laws of the day record, and that the promise on it admits one outcome.
 pub mod Added
+pub mod OneOutcome

@@ -1,7 +1,8 @@
 // The host's day record: six totals, brought up to date where they stand by each run. Each stays at its largest value once there.
 ghost use mathlib.Core.Path.{_≡_};
 ghost use Rattle.day.specs.Day.{sumOf, totalsOf, added, afterRun};
-use answers::{Ran, Report};
+use answers::Ran;
+use answers::Report;
 
 pub struct Day {}
 

@@ -15,18 +15,21 @@ use Rattle.rules.specs.Draw.{draw}
 use Rattle.rules.specs.Sound.{picture, Right}
 use Rattle.rules.specs.Ready.{Ready}
 use Rattle.rules.proofs.Run.{Stops, next-step, all-step, ended, spent, short, unknown, goes-on, outcomes-length, outcomes-append, nextAll-append}
-use Rattle.rules.proofs.Settle.{Step}
 use Rattle.rules.proofs.Ready.{ready-right, ready-drawn, drawn-ready, drawn-picture}
 use Rattle.command.specs.declared.Command as code
 use Rattle.command.specs.Bytes.{commandAt, isKnown, asCommand}
 use Rattle.answers.specs.declared.Report.{Report}
 use Rattle.run.specs.Seen.{largest, caseOf, cases, Seen, joinedIn, reportOn}
 use Rattle.run.specs.Runs.{totalled, reported}
-use Rattle.run.proofs.Seen.{none-seen, one-more, joined-few, seen-few, seen-totalled}
+use Rattle.run.proofs.Seen.{case-below, none-seen, one-more, joined-few, seen-few, seen-totalled}
 
 -- what the commands come to from a picture
 abbrev cameTo : Picture → List Command → List Outcome
 cameTo P = outcomes (limitsOf P) (plain P)
+
+-- a command comes to one of the cases
+pub placed : (P : Picture) (c : code.Command) {k : ℕ} → k ≡ caseOf (outcome (limitsOf P) (plain P) (asCommand c)) → k < cases
+placed P c e = omega (arith, e, case-below (outcome (limitsOf P) (plain P) (asCommand c)))
 
 -- from the table t₀: `done` commands were carried out, `seen` counts what they came to, t is the table since, and the bytes from `at` on say what follows
 pub record Going (q : ℕ) (t₀ bytes : List ℕ) (budget : ℕ) (t : List ℕ) (at done : ℕ) (seen : List ℕ) : Type 0 where
@@ -83,14 +86,13 @@ module _ {q : ℕ} {t₀ bytes : List ℕ} {budget : ℕ} {t : List ℕ} {at don
   halts : (n : ℕ) → Stops (budget - done) (drop at bytes) n → Comes (reportOn n done seen)
   halts n k =
       let all : carried budget bytes ≡ g .commands = g .follow ∙ ap (λ (cs : List Command). g .commands ++ cs) (k .nothing) ∙ append-nil (g .commands) in
-      let last : stop budget bytes ≡ n = g .stops ∙ k .number in
-      (
+      let last : stop budget bytes ≡ n = g .stops ∙ k .number in (
         seen-totalled (g .counted) n came ∙ (λ i. totalled (sym last i) (cameTo P (sym all i))),
         ready-drawn (g .ready) ∙ ap draw (g .drawn) ∙ ap (λ (cs : List Command). draw (nextAll P cs)) (sym all),
       )
 
-  pub all-read : (at < length bytes → ⊥) → Comes (reportOn number.ended done seen)
-  all-read n = halts number.ended (ended (budget - done) (drop at bytes) (omega (arith, length-drop at bytes, g .inside, n)))
+  pub all-read : length bytes ≤ at → Comes (reportOn number.ended done seen)
+  all-read n = halts number.ended (ended (budget - done) (drop at bytes) (omega (arith, length-drop at bytes, n)))
 
   module _ (more : at < length bytes) where
     some : length (drop at bytes) ≡ 0 → ⊥

@@ -10,11 +10,27 @@ use lib.Dec.{eqb}
 use lib.ListN.{length, getD, replicate, set, length-set, getD-replicate}
 use lib.Seq.{getD-set-same, getD-set-other}
 use borrow.Author.Tests.{eq-eqb, ne-eqb}
-use Rattle.rules.specs.Commands.{Outcome, joined, evicted, turned, passed, served, idle}
+use Rattle.rules.specs.History as history
+use Rattle.rules.specs.Commands.{Outcome, joined, evicted, turned, passed, served, idle, ofChoice, ofSlide, ofServe}
 use Rattle.rules.specs.Run.{Totals, totals, total}
 use Rattle.rules.proofs.Run.{all-counted}
-use Rattle.run.specs.Seen.{caseOf, cases, ofCase, Seen, joinedIn, reportOn}
+use Rattle.answers.specs.Engine.{asChoice, asLeft}
+use Rattle.run.specs.Seen.{caseOf, cases, arriveCase, slideCase, serveCase, ofCase, Seen, joinedIn, reportOn}
 use Rattle.run.specs.Runs.{totalled}
+
+-- what a step answers has the place of what its command came to
+pub arrive-case : (x : history.Choice) → arriveCase (asChoice x) ≡ caseOf (ofChoice x)
+arrive-case history.joined = refl
+arrive-case (history.evicted r) = refl
+arrive-case history.turned = refl
+
+pub slide-case : (x : history.Left) → slideCase (asLeft x) ≡ caseOf (ofSlide x)
+slide-case history.nothing = refl
+slide-case (history.left r) = refl
+
+pub serve-case : (x : history.Left) → serveCase (asLeft x) ≡ caseOf (ofServe x)
+serve-case history.nothing = refl
+serve-case (history.left r) = refl
 
 -- nothing yet
 pub none-seen : Seen (replicate cases 0) []
@@ -54,11 +70,11 @@ module _ {seen : List ℕ} {os : List Outcome} (v : Seen seen os) where
         long = length-set seen (caseOf o) _ ∙ v .long;
         each = λ k h. elim (ℕ-discrete k (caseOf o)) [
           | yes e ↦ (let one : ofCase k (o ∷ []) ≡ 1 = simp (eq-eqb (caseOf o) k (sym e)) in
-            ap (λ (j : ℕ). getD (set seen (caseOf o) (getD seen (caseOf o) 0 + 1)) j 0) e
-            ∙ getD-set-same seen (caseOf o) _ 0 (omega (arith, case-below o, v .long))
-            ∙ omega (arith, v .each (caseOf o) (case-below o), ap (λ (j : ℕ). ofCase j os) e, of-append k os (o ∷ []), one))
+              ap (λ (j : ℕ). getD (set seen (caseOf o) (getD seen (caseOf o) 0 + 1)) j 0) e
+              ∙ getD-set-same seen (caseOf o) _ 0 (omega (arith, case-below o, v .long))
+              ∙ omega (arith, v .each (caseOf o) (case-below o), ap (λ (j : ℕ). ofCase j os) e, of-append k os (o ∷ []), one))
           | no n ↦ (let none : ofCase k (o ∷ []) ≡ 0 = simp (ne-eqb (caseOf o) k (λ e. n (sym e))) in
-            getD-set-other seen (caseOf o) k _ 0 n ∙ omega (arith, v .each k h, of-append k os (o ∷ []), none))
+              getD-set-other seen (caseOf o) k _ 0 n ∙ omega (arith, v .each k h, of-append k os (o ∷ []), none))
         ];
       }
 

@@ -1,20 +1,15 @@
--- The struct holds the answer of the call beneath, whose words these are. Assumes nothing.
-use Rattle.boomspool.proofs.Replies.{hands, telling}
+-- The struct holds the answer of the call beneath. Assumes nothing.
+use mathlib.Core.Path.{ap, _∙_}
+use Rattle.boomspool.specs.Replies.{toldStruct}
 use borrow.Author.Needs.{needs}
 use Rattle.boomspool.proofs.boomspool_oldest.Statement.{statement}
 use Rattle.boomspool.proofs.boomspool_oldest.Tie as tie
 
-oldest-requires : tie.Need-oldest-requires
-oldest-requires c κs = search needs
-
-told-reply-requires : tie.Need-told-reply-requires
-told-reply-requires c κs = search needs
-
 returns : tie.Need-returns
 returns c =
     let l = c .before .oldest .ensures in
-    let h = hands telling (l .0) (l .1) (c .told-reply .ensures) in
-    h
+    let h = c .told-reply .ensures in
+    (h .0 ∙ ap toldStruct (l .0), h .1 ∙ l .1)
 
 pub boomspool-oldest-spec : {M : Type 1} → statement M
-boomspool-oldest-spec = tie.close (tie.spec oldest-requires told-reply-requires returns)
+boomspool-oldest-spec = tie.close (tie.spec (λ c κs. search needs) (λ c κs. search needs) returns)

@@ -55,12 +55,11 @@ loop-again : tie.Need-loop-again Inv-loop μ-loop
 loop-again c =
     let l = c .before .before .before .loop in
     let a = c .before .before .before .before .args in
-    let now = l .inv .1 in
-    (
+    let now = l .inv .1 in (
       omega arith,
       (λ i. set (now i) (l .k) ((c .sum .ensures ∙ ap (λ (d : List ℕ). sumOf (getD d (l .k) 0) (getD (a .t2) (l .k) 0)) now ∙ ap (λ (x : ℕ). sumOf x (getD (a .t2) (l .k) 0)) (added-later (a .day .now) (a .t2) (l .k))) i))
-      ∙ added-one (a .day .now) (a .t2) (l .k) (search needs)
-      ∙ ap (λ (n : ℕ). added (a .day .now) (take n (a .t2))) (sym (add-one (l .k))),
+          ∙ added-one (a .day .now) (a .t2) (l .k) (search needs)
+          ∙ ap (λ (n : ℕ). added (a .day .now) (take n (a .t2))) (sym (add-one (l .k))),
     )
 
 returns : tie.Need-returns Inv-loop μ-loop

@@ -1,62 +1,80 @@
--- The step answers what the plain history says, and is counted so. Assumes nothing.
-use Rattle.run.proofs.Tally.{arrive-done, slide-done, serve-done}
-use Rattle.rules.specs.Sound.{picture}
+-- The kind says which command it is, and the step answers what the plain history says of it. Assumes nothing.
+use mathlib.Core.List.{List}
+use mathlib.Core.Path.{_≡_, sym, ap, _∙_, subst}
+use Prim.Native.Nat.{ℕ}
+use borrow.Author.Tests.{eq-eqb, ne-eqb}
 use borrow.Author.Needs.{needs}
+use Rattle.rules.specs.History as history
+use Rattle.rules.specs.History.{request, choice, slideLeft}
+use Rattle.rules.specs.Commands.{Command, arriving, sliding, serving, outcome, next}
+use Rattle.rules.specs.Picture.{Picture, limitsOf, plain}
+use Rattle.rules.specs.Steps as steps
+use Rattle.rules.specs.Steps.{arrived, slid}
+use Rattle.rules.specs.Draw.{draw}
+use Rattle.rules.specs.Sound.{picture}
+use Rattle.command.specs.declared.Command as code
+use Rattle.command.specs.Bytes.{asCommand}
+use Rattle.answers.specs.Engine.{asChoice, asLeft}
+use Rattle.answers.specs.declared.Choice.{Choice}
+use Rattle.answers.specs.declared.Left.{Left}
+use Rattle.run.specs.Seen.{caseOf, arriveCase, slideCase, serveCase}
+use Rattle.run.proofs.Seen.{arrive-case, slide-case, serve-case}
 use Rattle.run.proofs.carry_out.Statement.{statement}
 use Rattle.run.proofs.carry_out.Tie as tie
 
-arrive-requires : tie.Need-arrive-requires
-arrive-requires c κs = search needs
+-- the place and the table after a command
+abbrev Done : Picture → ℕ → List ℕ → Command → Type 0
+Done P k u x = (k ≡ caseOf (outcome (limitsOf P) (plain P) x)) × (u ≡ draw (next P x))
 
-tally-arrive-requires : tie.Need-tally-arrive-requires
-tally-arrive-requires c κs = search needs
+module _ (P : Picture) (c : code.Command) {k : ℕ} {u : List ℕ} where
+  is : (x : Command) → asCommand c ≡ x → Done P k u x → Done P k u (asCommand c)
+  is x e h = subst (Done P k u) (sym e) h
 
-same-length : tie.Need-same-length
-same-length c = search needs
+  arrive-done : c .kind ≡ 1 → {a : Choice} → a ≡ asChoice (choice (limitsOf P) (plain P) (c .id)) → k ≡ arriveCase a → u ≡ draw (arrived P (c .id) (c .ticket)) → Done P k u (asCommand c)
+  arrive-done h e f d =
+      is (arriving (request (c .id) (c .ticket))) (simp (eq-eqb (c .kind) 1 h)) (f ∙ ap arriveCase e ∙ arrive-case (choice (limitsOf P) (plain P) (c .id)), d)
+
+  module _ (other : c .kind ≡ 1 → ⊥) where
+    slide-done : c .kind ≡ 2 → {a : Left} → a ≡ asLeft (slideLeft (limitsOf P) (plain P)) → k ≡ slideCase a → u ≡ draw (slid P (c .id) (c .ticket)) → Done P k u (asCommand c)
+    slide-done h e f d =
+        is (sliding (request (c .id) (c .ticket))) (simp (ne-eqb (c .kind) 1 other, eq-eqb (c .kind) 2 h))
+        (f ∙ ap slideCase e ∙ slide-case (slideLeft (limitsOf P) (plain P)), d)
+
+    serve-done : (c .kind ≡ 2 → ⊥) → {a : Left} → a ≡ asLeft (history.served (plain P)) → k ≡ serveCase a → u ≡ draw (steps.served P) → Done P k u (asCommand c)
+    serve-done h e f d =
+        is serving (simp (ne-eqb (c .kind) 1 other, ne-eqb (c .kind) 2 h)) (f ∙ ap serveCase e ∙ serve-case (history.served (plain P)), d)
 
 returns : tie.Need-returns
-returns c = let a = c .before .before .before .before .before .before .before .before .args in
-    arrive-done (picture (a .t .now)) (a .ran) (a .c) (search needs) (c .before .before .before .arrive .ensures .0) (c .tally-arrive .ensures) (c .before .before .before .arrive .ensures .1 .0)
-
-slide-requires : tie.Need-slide-requires
-slide-requires c κs = search needs
-
-tally-slide-requires : tie.Need-tally-slide-requires
-tally-slide-requires c κs = search needs
-
-same-length-2 : tie.Need-same-length-2
-same-length-2 c = search needs
+returns c =
+    let s = c .before .before .before in
+    let a = s .before .before .before .before .before .args in
+    arrive-done (picture (a .t .now)) (a .c) (search needs) (s .arrive .ensures .0) (c .of-arrive .ensures) (s .arrive .ensures .1)
 
 returns-2 : tie.Need-returns-2
-returns-2 c = let a = c .before .before .before .before .before .before .before .before .before .before .args in
-    slide-done (picture (a .t .now)) (a .ran) (a .c) (search needs) (search needs) (c .before .before .before .slide .ensures .0) (c .tally-slide .ensures) (c .before .before .before .slide .ensures .1 .0)
-
-serve-requires : tie.Need-serve-requires
-serve-requires c κs = search needs
-
-tally-serve-requires : tie.Need-tally-serve-requires
-tally-serve-requires c κs = search needs
-
-same-length-3 : tie.Need-same-length-3
-same-length-3 c = search needs
+returns-2 c =
+    let s = c .before .before .before in
+    let a = s .before .before .before .before .before .before .before .args in
+    slide-done (picture (a .t .now)) (a .c) (search needs) (search needs) (s .slide .ensures .0) (c .of-slide .ensures) (s .slide .ensures .1)
 
 returns-3 : tie.Need-returns-3
-returns-3 c = let a = c .before .before .before .before .before .before .before .before .before .before .args in
-    serve-done (picture (a .t .now)) (a .ran) (a .c) (search needs) (search needs) (c .before .before .before .serve .ensures .0) (c .tally-serve .ensures) (c .before .before .before .serve .ensures .1 .0)
+returns-3 c =
+    let s = c .before .before .before in
+    let a = s .before .before .before .before .before .before .before .args in
+    serve-done (picture (a .t .now)) (a .c) (search needs) (search needs) (s .serve .ensures .0) (c .of-serve .ensures) (s .serve .ensures .1)
 
 pub carry-out-spec : {M : Type 1} → statement M
 carry-out-spec =
     tie.close
     (tie.spec
-    arrive-requires
-    tally-arrive-requires
-    same-length
+    (λ c κs. search needs)
+    (λ c κs. search needs)
+    (λ c. search needs)
     returns
-    slide-requires
-    tally-slide-requires
-    same-length-2
+    (λ c κs. search needs)
+    (λ c κs. search needs)
+    (λ c. search needs)
     returns-2
-    serve-requires
-    tally-serve-requires
-    same-length-3
+    (λ c κs. search needs)
+    (λ c κs. search needs)
+    (λ c. search needs)
     returns-3)
