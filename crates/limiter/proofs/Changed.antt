@@ -43,6 +43,7 @@ module _ (step : Picture → Picture) (t : List ℕ) where
     unfolding afterwards
     changed = rw (found t _ o .0, drawn, part-size t o is)
 
-    pub changed-words : (few : ℕ) → length l ≡ length (take n t) → altered (take n t) l ≤ few → Words few (l ++ drop n t)
+    pub changed-words : (few : ℕ) → length l ≡ length (take n t) → altered (take n t) (draw (step (picture (take n t)))) ≤ few → Words few (l ++ drop n t)
     changed-words few same h =
-        (changed, subst (λ (x : List ℕ). altered x (l ++ drop n t) ≤ few) (take-append-drop n t) (rw (altered-before (take n t) l (drop n t) same) h))
+        let b : altered (take n t) l ≤ few = rw drawn h in
+        (changed, subst (λ (x : List ℕ). altered x (l ++ drop n t) ≤ few) (take-append-drop n t) (rw (altered-before (take n t) l (drop n t) same) b))

@@ -8,13 +8,21 @@ ghost use Rattle.table.specs.Regions.{altered};
 ghost use Rattle.rules.specs.History as history;
 ghost use Rattle.rules.specs.Steps as steps;
 ghost use Rattle.rules.specs.Verdict.{afterwards};
-ghost use Rattle.answers.specs.Numbers.{arrivedNumbers, slidNumbers, servedNumbers, listedNumbers, countedNumbers, toldNumbers, ranNumbers};
+ghost use Rattle.answers.specs.Numbers.{arrivedNumbers, slidNumbers, servedNumbers, listedNumbers, countedNumbers, toldNumbers};
 ghost use Rattle.limiter.specs.Lent.{waitingIn, numbersOf};
 ghost use Rattle.limiter.specs.Questions.{listedAnswer, listedOut, listedNumber, countedAnswer, countedNumber, toldAnswer, toldNumber};
 ghost use Rattle.limiter.specs.Calls.{arriveChoice, arriveAnswer, arriveNumber, choiceValues, slideLeaves, slideAnswer, slideNumber, slideValues, serveAnswer, serveNumber, serveValues};
 ghost use Rattle.limiter.specs.Runs.{runAnswer, runWords};
-use answers::{Arrived, Counted, Listed, Opened, Ran, Served, Slid, Told};
-use table::{LinkedTable, Ticket};
+use answers::Arrived;
+use answers::Counted;
+use answers::Listed;
+use answers::Opened;
+use answers::Ran;
+use answers::Served;
+use answers::Slid;
+use answers::Told;
+use table::LinkedTable;
+use table::Ticket;
 
 // Heaviest first: writes id and count of min(k, clients) clients.
 pub fn heaviest(t: &[u32], k: usize, out: &mut [u32]) -> Listed
@@ -25,7 +33,12 @@ pub fn heaviest(t: &[u32], k: usize, out: &mut [u32]) -> Listed
     let s = spread::table();
     match verdict::of(t, &s) {
         Opened::Refused(r) => Listed::Refused(r),
-        Opened::Table(q) => answers::offered_listing(questions::heaviest(&t[..LinkedTable::size(q)], q, k, out)),
+        Opened::Table(q) => answers::offered_listing(questions::heaviest(
+            &t[..LinkedTable::size(q)],
+            q,
+            k,
+            out,
+        )),
     }
 }
 
@@ -38,7 +51,12 @@ pub fn lightest(t: &[u32], k: usize, out: &mut [u32]) -> Listed
     let s = spread::table();
     match verdict::of(t, &s) {
         Opened::Refused(r) => Listed::Refused(r),
-        Opened::Table(q) => answers::offered_listing(questions::lightest(&t[..LinkedTable::size(q)], q, k, out)),
+        Opened::Table(q) => answers::offered_listing(questions::lightest(
+            &t[..LinkedTable::size(q)],
+            q,
+            k,
+            out,
+        )),
     }
 }
 
@@ -50,7 +68,12 @@ pub fn count(t: &[u32], id: u32) -> Counted
     let s = spread::table();
     match verdict::of(t, &s) {
         Opened::Refused(r) => Counted::Refused(r),
-        Opened::Table(q) => Counted::Number(questions::count(&t[..LinkedTable::size(q)], q, &s, id)),
+        Opened::Table(q) => Counted::Number(questions::count(
+            &t[..LinkedTable::size(q)],
+            q,
+            &s,
+            id,
+        )),
     }
 }
 
@@ -62,7 +85,12 @@ pub fn oldest(t: &[u32], id: u32) -> Told
     let s = spread::table();
     match verdict::of(t, &s) {
         Opened::Refused(r) => Told::Refused(r),
-        Opened::Table(q) => answers::offered_ticket(questions::oldest(&t[..LinkedTable::size(q)], q, &s, id)),
+        Opened::Table(q) => answers::offered_ticket(questions::oldest(
+            &t[..LinkedTable::size(q)],
+            q,
+            &s,
+            id,
+        )),
     }
 }
 
@@ -74,7 +102,12 @@ pub fn newest(t: &[u32], id: u32) -> Told
     let s = spread::table();
     match verdict::of(t, &s) {
         Opened::Refused(r) => Told::Refused(r),
-        Opened::Table(q) => answers::offered_ticket(questions::newest(&t[..LinkedTable::size(q)], q, &s, id)),
+        Opened::Table(q) => answers::offered_ticket(questions::newest(
+            &t[..LinkedTable::size(q)],
+            q,
+            &s,
+            id,
+        )),
     }
 }
 
@@ -88,7 +121,13 @@ pub fn arrive(t: &mut [u32], id: u32, ticket: Ticket) -> Arrived
     let s = spread::table();
     match verdict::of(t, &s) {
         Opened::Refused(r) => Arrived::Refused(r),
-        Opened::Table(q) => answers::offered_arrive(steps::arrive(&mut t[..LinkedTable::size(q)], q, &s, id, ticket)),
+        Opened::Table(q) => answers::offered_arrive(steps::arrive(
+            &mut t[..LinkedTable::size(q)],
+            q,
+            &s,
+            id,
+            ticket,
+        )),
     }
 }
 
@@ -102,7 +141,13 @@ pub fn slide(t: &mut [u32], id: u32, ticket: Ticket) -> Slid
     let s = spread::table();
     match verdict::of(t, &s) {
         Opened::Refused(r) => Slid::Refused(r),
-        Opened::Table(q) => answers::offered_slide(steps::slide(&mut t[..LinkedTable::size(q)], q, &s, id, ticket)),
+        Opened::Table(q) => answers::offered_slide(steps::slide(
+            &mut t[..LinkedTable::size(q)],
+            q,
+            &s,
+            id,
+            ticket,
+        )),
     }
 }
 
@@ -116,7 +161,11 @@ pub fn serve(t: &mut [u32]) -> Served
     let s = spread::table();
     match verdict::of(t, &s) {
         Opened::Refused(r) => Served::Refused(r),
-        Opened::Table(q) => answers::offered_serve(steps::serve(&mut t[..LinkedTable::size(q)], q, &s)),
+        Opened::Table(q) => answers::offered_serve(steps::serve(
+            &mut t[..LinkedTable::size(q)],
+            q,
+            &s,
+        )),
     }
 }
 
@@ -128,6 +177,12 @@ pub fn run(t: &mut [u32], bytes: &[u8], budget: u64) -> Ran
     let s = spread::table();
     match verdict::of(t, &s) {
         Opened::Refused(r) => Ran::Refused(r),
-        Opened::Table(q) => Ran::Reported(run::run(&mut t[..LinkedTable::size(q)], q, &s, bytes, budget)),
+        Opened::Table(q) => Ran::Reported(run::run(
+            &mut t[..LinkedTable::size(q)],
+            q,
+            &s,
+            bytes,
+            budget,
+        )),
     }
 }

@@ -11,7 +11,9 @@ ghost use Rattle.rules.specs.Ready.{Ready};
 ghost use Rattle.command.specs.Bytes.{asCommand};
 ghost use Rattle.run.specs.Seen.{largest, caseOf, arriveCase, slideCase, serveCase, joinedIn, reportOn};
 ghost use Rattle.run.specs.Runs.{reported};
-use answers::{Choice, Left, Report};
+use answers::Choice;
+use answers::Left;
+use answers::Report;
 use command::Command;
 
 // What a command came to: the place of its count among the six.

@@ -95,6 +95,7 @@ module _ {q : ℕ} {t : List ℕ} (y : Ready q t) (h : 1 ≤ length (picture t .
     pub still-arrives : {x : Request} {u : List ℕ} (ticket : ℕ) → choice (limitsOf P) (plain P) id ≡ evicted (newest (heaviestClient (plain P)) (plain P .window))
         → x ≡ asStruct (requestOf (P .clients) gone) → u ≡ draw (join (picture a) id ticket)
         → (choices.Evicted x ≡ asChoice (choice (limitsOf P) (plain P) id)) × (u ≡ draw (arrived P id ticket))
-    still-arrives ticket c told d =
-        (ap choices.Evicted (told ∙ ap asStruct (evicted-request P (ready-right y) h)) ∙ sym (ap asChoice c),
-        then-joined gone y (evict-step P (ready-right y) h) drawn id ticket d ∙ ap draw (sym (arrived-by P id ticket c)))
+    still-arrives ticket c told d = (
+      ap choices.Evicted (told ∙ ap asStruct (evicted-request P (ready-right y) h)) ∙ sym (ap asChoice c),
+      then-joined gone y (evict-step P (ready-right y) h) drawn id ticket d ∙ ap draw (sym (arrived-by P id ticket c)),
+    )

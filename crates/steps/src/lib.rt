@@ -16,9 +16,12 @@ ghost use Rattle.rules.specs.Ready.{Ready};
 ghost use Rattle.lookup.specs.Promise.{Found, Home};
 ghost use Rattle.answers.specs.Engine.{asStruct, asChoice, asLeft};
 ghost use Rattle.steps.specs.Items.{itemIn};
-use answers::{Choice, Left, Request};
+use answers::Choice;
+use answers::Left;
+use answers::Request;
 use lookup::Sought;
-use table::{LinkedTable, Ticket};
+use table::LinkedTable;
+use table::Ticket;
 
 // The arrival rule where the window is full: whether a client with n waiting requests is turned away, m being the largest count.
 fn turned_away(n: u32, m: u32) -> bool

@@ -1,9 +1,7 @@
 -- A table that is not refused is ready, so the count is of what it shows; a refused one is not read. Assumes nothing.
-use mathlib.Core.Path.{_≡_, sym, ap, _∙_}
+use mathlib.Core.Path.{sym, ap, _∙_}
 use borrow.Author.Needs.{needs}
 use Rattle.answers.specs.declared.Counted.the-variants as counted
-use Rattle.answers.specs.declared.Opened.the-variants as opened
-use Rattle.answers.specs.Offered.{openedOn}
 use Rattle.limiter.proofs.Lent.{part-most, part-long, part-ready}
 use Rattle.limiter.proofs.Answers.{call-refuses, call-answers}
 use Rattle.limiter.proofs.Calls.{counting}

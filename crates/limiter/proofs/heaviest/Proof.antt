@@ -1,5 +1,5 @@
 -- A table that is not refused is ready, so the listing is of what it shows; a refused one is not read. Assumes nothing.
-use mathlib.Core.Path.{_≡_, sym, ap, _∙_}
+use mathlib.Core.Path.{sym, ap, _∙_}
 use borrow.Author.Needs.{needs}
 use lib.ListN.{length}
 use Rattle.rules.specs.History as history
