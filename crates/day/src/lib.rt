@@ -32,15 +32,17 @@ fn totals(r: Report) -> [u64; Day::TOTALS]
     [r.joined, r.evicted, r.passed, r.served, r.turned, r.idle]
 }
 
-// Each total of the record with more.
-fn add(day: &mut [u64; Day::TOTALS], more: [u64; Day::TOTALS])
-    ensures { λ _. ⌜ now (day .exit) ≡ added (now (day .entry)) more ⌝ }
+// Each total of a record with more.
+fn add(day: [u64; Day::TOTALS], more: [u64; Day::TOTALS]) -> [u64; Day::TOTALS]
+    ensures { λ r. ⌜ r ≡ added day more ⌝ }
 {
+    let mut sums = day;
     let mut k = 0;
     while k < Day::TOTALS {
-        day[k] = sum(day[k], more[k]);
+        sums[k] = sum(sums[k], more[k]);
         k += 1;
     }
+    sums
 }
 
 // Brings the record up to date where it stands; a run that was refused leaves it.
@@ -48,7 +50,9 @@ pub fn bring_up(day: &mut [u64; Day::TOTALS], r: Ran)
     ensures { λ _. ⌜ now (day .exit) ≡ afterRun (now (day .entry)) r ⌝ }
 {
     match r {
-        Ran::Reported(report) => add(day, totals(report)),
+        Ran::Reported(report) => {
+            *day = add(*day, totals(report));
+        }
         Ran::Refused(_) => {}
     }
 }

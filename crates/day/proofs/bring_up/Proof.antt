@@ -5,18 +5,6 @@ use Rattle.day.specs.Day.{added, afterRun}
 use Rattle.day.proofs.bring_up.Statement.{statement}
 use Rattle.day.proofs.bring_up.Tie as tie
 
-enum-known-r : tie.Need-enum-known-r
-enum-known-r c = search needs
-
-totals-requires : tie.Need-totals-requires
-totals-requires c κs = search needs
-
-add-requires : tie.Need-add-requires
-add-requires c κs = search needs
-
-enum-told : tie.Need-enum-told
-enum-told c = search needs
-
 returns : tie.Need-returns
 returns c =
     let a = c .before .before .before .before .before .before .args in
@@ -26,4 +14,5 @@ returns-2 : tie.Need-returns-2
 returns-2 c = search needs
 
 pub bring-up-spec : {M : Type 1} → statement M
-bring-up-spec = tie.close (tie.spec enum-known-r totals-requires add-requires enum-told returns returns-2)
+bring-up-spec =
+    tie.close (tie.spec (λ c. search needs) (λ c κs. search needs) (λ c κs. search needs) (λ c. search needs) returns returns-2)
