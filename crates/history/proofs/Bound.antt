@@ -1,4 +1,4 @@
--- Demand 3: an arrive, a slide and a serve alter at most 96 words each, whatever slice they are made on and however many of its words they are lent; a question alters none.
+-- Demand 3: an arrive and a slide alter at most 48 words each, a serve 24, a run 48 for each command that it carries out, a question none, a lay-out the words of its table at most: whatever slice they are made on and however many of its words they are lent.
 use mathlib.Core.Bool.{Bool, true, false, cond}
 use mathlib.Core.List.{List, [], _∷_, _++_}
 use mathlib.Core.Path.{_≡_, refl, sym, ap, _∙_, subst}
@@ -7,45 +7,65 @@ use native.Mathlib.Omega.{arith}
 use native.Mathlib.Nat.{mul-suc}
 use lib.Dec.{eqb}
 use lib.ListN.{length, take, drop, length-append, take-append-drop}
-use borrow.Author.Tests.{eqb-true}
+use lib.Seq.{length-take-le}
+use borrow.Author.Tests.{eqb-true, eqb-false}
 use Rattle.table.specs.Kind as kind
 use Rattle.table.specs.Regions.{altered}
 use Rattle.table.proofs.Write.{altered-same, altered-trans}
-use Rattle.rules.specs.History.{request}
+use Rattle.rules.specs.History.{Limits}
 use Rattle.rules.specs.Picture.{Picture}
-use Rattle.rules.specs.Commands as commands
-use Rattle.rules.specs.Commands.{Command, next}
+use Rattle.rules.specs.Steps.{empty}
+use Rattle.rules.specs.Commands.{Command, arriving, sliding, serving, next}
 use Rattle.rules.specs.Run.{carried, nextAll}
 use Rattle.rules.specs.Draw.{draw}
 use Rattle.rules.specs.Sound.{picture}
 use Rattle.rules.specs.Ready.{Ready}
-use Rattle.rules.specs.Verdict.{room, verdict, afterwards}
-use Rattle.rules.proofs.Settle.{Step}
+use Rattle.rules.specs.Verdict.{room, verdict, afterwards, layOutNumber}
 use Rattle.rules.proofs.Ready.{ready-right, ready-sized, drawn-ready, drawn-picture}
 use Rattle.rules.proofs.Run.{next-step, all-step}
+use Rattle.layout.proofs.After.{laid-is}
+use Rattle.layout.proofs.After as after-lay-out
+use Rattle.limiter.specs.Lent.{lent}
 use Rattle.limiter.proofs.Lent.{accepted}
 use Rattle.limiter.proofs.Changed.{altered-before}
-use Rattle.history.specs.Calls.{Call, arriving, sliding, serving, running, heaviest, lightest, count, oldest, newest, Lent, words, sliceAfter, carriedOut}
+use Rattle.history.specs.Plain.{Call, carry, run, ask, layOut, Lent}
+use Rattle.history.specs.Words.{words, sliceAfter, mostAltered}
 use Rattle.history.proofs.Drawn.{drawn-long}
+use Rattle.history.proofs.Call.{command-words, lay-out-stays}
 use Rattle.steps.proofs.Few.{unaltered, arrive-few, slide-few, serve-few}
 
--- one command after another on a ready table
-next-few : {q : ℕ} {t : List ℕ} → Ready q t → (c : Command) → altered t (draw (next (picture t) c)) ≤ 96
-next-few y (commands.arriving r) = arrive-few y (r .id) (r .ticket)
-next-few y (commands.sliding r) = slide-few y (r .id) (r .ticket)
-next-few y commands.serving = serve-few y
+-- no more words are altered than there are
+altered-most : (xs ys : List ℕ) → altered xs ys ≤ length xs
+altered-most [] [] = omega arith
+altered-most [] (y ∷ ys) = omega arith
+altered-most (x ∷ xs) [] = omega arith
+altered-most (x ∷ xs) (y ∷ ys) = go (eqb x y) (altered-most xs ys)
+  where
+    go : (b : Bool) → altered xs ys ≤ length xs → cond b 0 1 + altered xs ys ≤ length (x ∷ xs)
+    go true h = omega (arith, h)
+    go false h = omega (arith, h)
 
-all-few : {q : ℕ} {t : List ℕ} → Ready q t → (cs : List Command) → altered t (draw (nextAll (picture t) cs)) ≤ 96 * length cs
+-- one command after another on a ready table
+next-few : {q : ℕ} {t : List ℕ} → Ready q t → (c : Command) → altered t (draw (next (picture t) c)) ≤ mostAltered (carry c)
+next-few y (arriving r) = arrive-few y (r .id) (r .ticket)
+next-few y (sliding r) = slide-few y (r .id) (r .ticket)
+next-few y serving = serve-few y
+
+most-of-one : (c : Command) → mostAltered (carry c) ≤ 48
+most-of-one (arriving r) = omega arith
+most-of-one (sliding r) = omega arith
+most-of-one serving = omega arith
+
+all-few : {q : ℕ} {t : List ℕ} → Ready q t → (cs : List Command) → altered t (draw (nextAll (picture t) cs)) ≤ 48 * length cs
 all-few {t = t} y [] = omega (arith, unaltered y)
 all-few {q} {t} y (c ∷ cs) =
     let k = next-step (picture t) (ready-right y) c in
-    let j : Step q _ (next (picture t) c) = record { right = k .right; places = k .places ∙ y .places; plain = refl } in
     let a : List ℕ = draw (next (picture t) c) in
-    let r : Ready q a = drawn-ready j refl in
-    let rest : altered a (draw (nextAll (next (picture t) c) cs)) ≤ 96 * length cs =
-    subst (λ (P : Picture). altered a (draw (nextAll P cs)) ≤ 96 * length cs) (drawn-picture j refl) (all-few r cs) in
-    rw (mul-suc 96 (length cs))
-    (omega (arith, altered-trans t a (draw (nextAll (next (picture t) c) cs)) (ready-sized r .long ∙ sym (ready-sized y .long)), next-few y c, rest))
+    let r : Ready (picture t .places) a = drawn-ready k refl in
+    let rest : altered a (draw (nextAll (next (picture t) c) cs)) ≤ 48 * length cs =
+    subst (λ (P : Picture). altered a (draw (nextAll P cs)) ≤ 48 * length cs) (drawn-picture k refl) (all-few r cs) in
+    rw (mul-suc 48 (length cs))
+    (omega (arith, altered-trans t a (draw (nextAll (next (picture t) c) cs)) (ready-sized r .long ∙ ap kind.size (y .places) ∙ sym (ready-sized y .long)), next-few y c, most-of-one c, rest))
 
 -- as many words as before, and at most k of them others
 abbrev Few : ℕ → List ℕ → List ℕ → Type 0
@@ -60,29 +80,37 @@ few-front {k} n t u (l, h) =
     subst (λ (x : List ℕ). Few k x (u ++ drop n t)) (take-append-drop n t)
     (length-append u (drop n t) ∙ ap (λ (m : ℕ). m + length (drop n t)) l ∙ sym (length-append (take n t) (drop n t)), rw (altered-before (take n t) u (drop n t) l) h)
 
--- commands on lent words that are a table
-few-after : (cs : List Command) (t : List ℕ) → Few (96 * length cs) t (afterwards (λ P. nextAll P cs) t)
+-- commands on lent words, which alter at most k words of a ready table
+few-after : (k : ℕ) (cs : List Command) → ((q : ℕ) (t : List ℕ) → Ready q t → altered t (draw (nextAll (picture t) cs)) ≤ k) → (t : List ℕ) → Few k t (afterwards (λ P. nextAll P cs) t)
 unfolding afterwards
-few-after cs t = go (eqb (verdict t) 0) refl
+few-after k cs few t = go (eqb (verdict t) 0) refl
   where
-    go : (b : Bool) → eqb (verdict t) 0 ≡ b → Few (96 * length cs) t (cond b (draw (nextAll (picture (take (room t) t)) cs) ++ drop (room t) t) t)
+    go : (b : Bool) → eqb (verdict t) 0 ≡ b → Few k t (cond b (draw (nextAll (lent t) cs) ++ drop (room t) t) t)
     go true e =
-        let y = accepted t (sym (eqb-true (verdict t) 0 e)) .ready in
-        let s = all-step (picture (take (room t) t)) (ready-right y) cs .places in
-        few-front (room t) t _ (drawn-long (nextAll (picture (take (room t) t)) cs) ∙ ap kind.size (s ∙ y .places) ∙ sym (ready-sized y .long), all-few y cs)
-    go false e = few-same (96 * length cs) t
+        let y = accepted t (eqb-true (verdict t) 0 e) .ready in
+        let s = all-step (lent t) (ready-right y) cs .limits in
+        few-front (room t) t (draw (nextAll (lent t) cs))
+        (drawn-long (nextAll (lent t) cs) ∙ ap (λ (L : Limits). kind.size (L .places)) s ∙ ap kind.size (y .places) ∙ sym (ready-sized y .long), few _ _ y)
+    go false e = few-same k t
 
-few-words : (c : Call) (t : List ℕ) → Few (96 * carriedOut c) t (words c t)
-few-words (arriving id ticket) t = few-after (commands.arriving (request id ticket) ∷ []) t
-few-words (sliding id ticket) t = few-after (commands.sliding (request id ticket) ∷ []) t
-few-words serving t = few-after (commands.serving ∷ []) t
-few-words (running bytes budget) t = few-after (carried budget bytes) t
-few-words (heaviest k out) t = few-same 0 t
-few-words (lightest k out) t = few-same 0 t
-few-words (count id) t = few-same 0 t
-few-words (oldest id) t = few-same 0 t
-few-words (newest id) t = few-same 0 t
+-- a lay-out
+few-laid : (q : ℕ) (t : List ℕ) → Few (kind.size q) t (words (layOut q) t)
+few-laid q t = go (eqb (layOutNumber q (length t)) 0) refl
+  where
+    go : (b : Bool) → eqb (layOutNumber q (length t)) 0 ≡ b → Few (kind.size q) t (words (layOut q) t)
+    go true e =
+        let z : layOutNumber q (length t) ≡ 0 = eqb-true (layOutNumber q (length t)) 0 e in
+        let h : kind.size q ≤ length t = after-lay-out.accepted q (length t) z .1 in
+        let part = length-take-le (kind.size q) t h in
+        subst (Few (kind.size q) t) (sym (laid-is q t z))
+        (few-front (kind.size q) t (draw (empty q)) (drawn-long (empty q) ∙ sym part, omega (arith, part, altered-most (take (kind.size q) t) (draw (empty q)))))
+    go false e = subst (Few (kind.size q) t) (sym (lay-out-stays q t (eqb-false (layOutNumber q (length t)) 0 e))) (few-same (kind.size q) t)
 
--- 96 words for each arrive, slide or serve that the call carries out
-pub few-altered : (l : Lent) (t : List ℕ) → altered t (sliceAfter l t) ≤ 96 * carriedOut (l .call)
+few-words : (c : Call) (t : List ℕ) → Few (mostAltered c) t (words c t)
+few-words (carry c) t = subst (Few (mostAltered (carry c)) t) (sym (command-words c t)) (few-after (mostAltered (carry c)) (c ∷ []) (λ q t y. next-few y c) t)
+few-words (run day bytes budget) t = few-after (48 * length (carried budget bytes)) (carried budget bytes) (λ q t y. all-few y (carried budget bytes)) t
+few-words (ask x) t = few-same 0 t
+few-words (layOut q) t = few-laid q t
+
+pub few-altered : (l : Lent) (t : List ℕ) → altered t (sliceAfter l t) ≤ mostAltered (l .call)
 few-altered l t = few-front (l .words) t (words (l .call) (take (l .words) t)) (few-words (l .call) (take (l .words) t)) .1

@@ -1,147 +1,202 @@
 -- One call on a slice that begins with the drawing of a right picture: it answers and steps as the plain history does, and draws the next picture.
-use mathlib.Core.Bool.{Bool, true, false}
-use mathlib.Core.List.{List, _++_, append-assoc}
-use mathlib.Core.Path.{_≡_, refl, ap, ap₂, _∙_}
-use Prim.Native.Nat.{ℕ, _+_, _-_, _<_}
+use mathlib.Core.Bool.{Bool, true, false, cond}
+use mathlib.Core.List.{List, [], _∷_, _++_, append-assoc}
+use mathlib.Core.Path.{_≡_, refl, sym, ap, ap₂, _∙_}
+use Prim.Native.Nat.{ℕ, _+_, _-_, _<_, _≤_, min}
+use native.Mathlib.Nat.{min-le-left, min-le-right, min-eq-left, min-eq-right}
+use native.Mathlib.Decide.{decLe}
 use native.Mathlib.Omega.{arith}
-use lib.ListN.{length, take, drop, take-append-drop}
-use lib.Seq.{take-append-add, drop-append-add}
-use borrow.Author.Tests.{ltb-true, ltb-false}
+use lib.Dec.{eqb}
+use lib.ListN.{length, take, drop, length-take, length-drop, length-append, take-append-drop}
+use lib.Seq.{take-append-add, drop-append-add, drop-append-le}
+use borrow.Author.Tests.{ltb-true, ltb-false, eqb-true, eqb-false, ne-eqb}
 use Rattle.table.specs.Kind as kind
-use Rattle.rules.specs.History as history
-use Rattle.rules.specs.History.{Waiting}
-use Rattle.rules.specs.Picture.{Picture, plain}
-use Rattle.rules.specs.Steps as steps
+use Rattle.rules.specs.Numbers as number
+use Rattle.rules.specs.History.{Limits}
+use Rattle.rules.specs.Picture.{Picture, limitsOf}
+use Rattle.rules.specs.Steps.{empty}
+use Rattle.rules.specs.Commands.{Command, arriving, sliding, serving}
 use Rattle.rules.specs.Run.{carried, nextAll}
 use Rattle.rules.specs.Draw.{draw}
-use Rattle.rules.specs.Sound.{picture, Right}
-use Rattle.rules.specs.Verdict.{room, verdict}
-use Rattle.rules.proofs.Settle.{Step}
-use Rattle.rules.proofs.Steps.{stay, arrive-step, slide-step, serve-step}
+use Rattle.rules.specs.Sound.{Right}
+use Rattle.rules.specs.Verdict.{verdict, afterwards, layOutNumber, laidOut}
+use Rattle.rules.proofs.Choose.{side-by-side}
 use Rattle.rules.proofs.Run.{all-step}
-use Rattle.steps.specs.Replies.{arrivedReply, slidReply, servedReply}
-use Rattle.steps.specs.declared.Arrived.the-variants as arriveTells
-use Rattle.steps.specs.declared.Slid.the-variants as slideTells
-use Rattle.steps.specs.declared.Served.the-variants as serveTells
-use Rattle.questions.specs.Replies.{listedReply, listedWords, toldReply}
-use Rattle.questions.specs.declared.Listed.the-variants as listTells
-use Rattle.questions.specs.declared.Told.the-variants as ticketTells
-use Rattle.run.specs.Tally.{none, halted}
-use Rattle.run.specs.Runs.{reported}
-use Rattle.limiter.specs.declared.Counted.the-variants as countTells
-use Rattle.limiter.specs.Lent.{orRefused}
-use Rattle.limiter.specs.Questions.{listedAnswer, listedOut}
-use Rattle.history.specs.Calls.{Call, arriving, sliding, serving, running, heaviest, lightest, count, oldest, newest, Lent, arrived, slid, served, ran, listed, counted, told, reply, words, sliceAfter, plainReply, refused, plainStep, short, plainAnswer, plainNext, pictureStep, pictureNext}
-use Rattle.history.proofs.Drawn.{drawn-long, drawn-accepted, drawn-found, drawn-after, short-refused, short-after}
+use Rattle.rules.proofs.Empty.{empty-right}
+use Rattle.layout.proofs.After.{accepted, laid-is}
+use Rattle.limiter.specs.Lent.{waitingIn, limitsIn, orRefused}
+use Rattle.history.specs.Plain.{Question, heaviest, lightest, count, oldest, newest, Call, carry, run, ask, layOut, Lent, lent, Reply, arrived, slid, served, ran, listed, counted, told, laid, Says, commandSays, runSays, questionSays, State, state, short, saidOf, carriedOn, plainAnswer, plainNext}
+use Rattle.history.specs.Words.{reply, words, sliceAfter, Slice, drawnOut, stateOf, carriedIn, pictureNext}
+use Rattle.history.proofs.Drawn.{drawn-long, long, drawn-accepted, drawn-found, drawn-after, short-refused, refused-stay, all-stay}
 
--- words that are not refused are answered by the picture in them; others are refused with their number
-module _ (t : List ℕ) where
-  module _ {P : Picture} (zero : verdict t ≡ 0) (found : picture (take (room t) t) ≡ P) where
-    pub given : {A : Type 0} (tells : ℕ → A) (answer : Picture → A) → orRefused tells t (answer (picture (take (room t) t))) ≡ answer P
-    given tells answer = rw zero (ap answer found)
+-- on any lent words a call says what it has to say: to a refusal of the table, or of what waits in it
+abbrev saidIn : Says → List ℕ → Reply
+saidIn k t = orRefused (k .refused) t (k .answer (limitsIn t) (waitingIn t))
 
-    listing : (which : ℕ → Waiting → List ℕ) (k : ℕ) (out : List ℕ)
-        → listed (listedAnswer k (length out) t) (listedOut which k t out) ≡ listed (listedReply k (length out) (plain P)) (listedWords which k (plain P) out)
-    listing which k out =
-        ap₂ listed (given listTells.Refused (λ P. listedReply k (length out) (plain P))) (given (λ _. out) (λ P. listedWords which k (plain P) out))
+command-said : (c : Command) (t : List ℕ) → reply (carry c) t ≡ saidIn (commandSays c) t
+command-said (arriving r) t = side-by-side arrived (eqb (verdict t) 0) refl refl
+command-said (sliding r) t = side-by-side slid (eqb (verdict t) 0) refl refl
+command-said serving t = side-by-side served (eqb (verdict t) 0) refl refl
 
-    answered : (c : Call) → reply c t ≡ plainReply (P .places) (plain P) c
-    answered (arriving id ticket) = ap arrived (given arriveTells.Refused (λ P. arrivedReply (history.choice (P .places) (plain P) id)))
-    answered (sliding id ticket) = ap slid (given slideTells.Refused (λ P. slidReply (history.slideLeft (P .places) (plain P))))
-    answered serving = ap served (given serveTells.Refused (λ P. servedReply (history.served (plain P))))
-    answered (running bytes budget) = ap ran (given (λ n. halted n none) (λ P. reported P budget bytes))
-    answered (heaviest k out) = listing history.heaviest k out
-    answered (lightest k out) = listing history.lightest k out
-    answered (count id) = ap counted (given countTells.Refused (λ P. countTells.Number (history.countOf (plain P) id)))
-    answered (oldest id) = ap told (given ticketTells.Refused (λ P. toldReply history.oldestTicket (plain P) id))
-    answered (newest id) = ap told (given ticketTells.Refused (λ P. toldReply history.newestTicket (plain P) id))
+two-by-two : {A B C : Type 0} (f : A → B → C) (b : Bool) {x y : A} {u v : B} {p q : C} → f x u ≡ p → f y v ≡ q → f (cond b x y) (cond b u v) ≡ cond b p q
+two-by-two f true e g = e
+two-by-two f false e g = g
 
-  not-answered : verdict t ≡ 2 → (c : Call) → reply c t ≡ refused 2 c
-  not-answered e (arriving id ticket) = rw e
-  not-answered e (sliding id ticket) = rw e
-  not-answered e serving = rw e
-  not-answered e (running bytes budget) = rw e
-  not-answered e (heaviest k out) = rw e
-  not-answered e (lightest k out) = rw e
-  not-answered e (count id) = rw e
-  not-answered e (oldest id) = rw e
-  not-answered e (newest id) = rw e
+question-said : (x : Question) (t : List ℕ) → reply (ask x) t ≡ saidIn (questionSays x) t
+question-said (heaviest k out) t = two-by-two listed (eqb (verdict t) 0) refl refl
+question-said (lightest k out) t = two-by-two listed (eqb (verdict t) 0) refl refl
+question-said (count id) t = side-by-side counted (eqb (verdict t) 0) refl refl
+question-said (oldest id) t = side-by-side told (eqb (verdict t) 0) refl refl
+question-said (newest id) t = side-by-side told (eqb (verdict t) 0) refl refl
 
--- each call keeps a picture right, and steps as the plain history does
-call-step : (c : Call) (P : Picture) → Right P → Step (P .places) (plainStep (P .places) (plain P) c) (pictureStep c P)
-call-step (arriving id ticket) P v = arrive-step P v id ticket
-call-step (sliding id ticket) P v = slide-step P v id ticket
-call-step serving P v = serve-step P v
-call-step (running bytes budget) P v = all-step P v (carried budget bytes)
-call-step (heaviest k out) P v = stay P v
-call-step (lightest k out) P v = stay P v
-call-step (count id) P v = stay P v
-call-step (oldest id) P v = stay P v
-call-step (newest id) P v = stay P v
+-- and a command leaves what the step on the picture leaves
+pub command-words : (c : Command) (t : List ℕ) → words (carry c) t ≡ afterwards (λ P. nextAll P (c ∷ [])) t
+command-words (arriving r) t = refl
+command-words (sliding r) t = refl
+command-words serving t = refl
 
-module _ (P : Picture) (v : Right P) where
-  -- all of the table is lent, and m words more
-  after-whole : (c : Call) (rest : List ℕ) → words c (draw P ++ rest) ≡ draw (pictureStep c P) ++ rest
-  after-whole (arriving id ticket) rest = drawn-after P v rest (λ P. steps.arrived P id ticket)
-  after-whole (sliding id ticket) rest = drawn-after P v rest (λ P. steps.slid P id ticket)
-  after-whole serving rest = drawn-after P v rest steps.served
-  after-whole (running bytes budget) rest = drawn-after P v rest (λ P. nextAll P (carried budget bytes))
-  after-whole (heaviest k out) rest = refl
-  after-whole (lightest k out) rest = refl
-  after-whole (count id) rest = refl
-  after-whole (oldest id) rest = refl
-  after-whole (newest id) rest = refl
-
-  -- too few words of it are
-  after-short : (c : Call) (rest : List ℕ) (n : ℕ) → n < kind.size (P .places) → words c (take n (draw P ++ rest)) ≡ take n (draw P ++ rest)
-  after-short (arriving id ticket) rest n h = short-after P v rest n h (λ P. steps.arrived P id ticket)
-  after-short (sliding id ticket) rest n h = short-after P v rest n h (λ P. steps.slid P id ticket)
-  after-short serving rest n h = short-after P v rest n h steps.served
-  after-short (running bytes budget) rest n h = short-after P v rest n h (λ P. nextAll P (carried budget bytes))
-  after-short (heaviest k out) rest n h = refl
-  after-short (lightest k out) rest n h = refl
-  after-short (count id) rest n h = refl
-  after-short (oldest id) rest n h = refl
-  after-short (newest id) rest n h = refl
+-- a call on the slice S that is answered a and leaves the words u: it is answered b, leaves the next slice, of as many words and right, and then this is the plain history
+pub record Meets (S : Slice) (a b : Reply) (u : List ℕ) (next : Slice) (s : State) : Type 0 where
+  pub answers : a ≡ b
+  pub leaves : u ≡ drawnOut next
+  pub long : length (drawnOut next) ≡ length (drawnOut S)
+  pub right : Right (next .picture)
+  pub goes : stateOf next ≡ s
 
 -- what a call comes to
-pub record Comes (P : Picture) (rest : List ℕ) (l : Lent) : Type 0 where
-  pub answers : reply (l .call) (take (l .words) (draw P ++ rest)) ≡ plainAnswer (P .places) (plain P) l
-  pub leaves : sliceAfter l (draw P ++ rest) ≡ draw (pictureNext P l) ++ rest
-  pub step : Step (P .places) (plainNext (P .places) (plain P) l) (pictureNext P l)
+abbrev pub Comes : Slice → Lent → Type 0
+Comes S l =
+    Meets S (reply (l .call) (take (l .words) (drawnOut S))) (plainAnswer (length (drawnOut S)) (stateOf S) l)
+    (sliceAfter l (drawnOut S)) (pictureNext S l) (plainNext (length (drawnOut S)) (stateOf S) l)
 
-module _ (P : Picture) (v : Right P) (rest : List ℕ) (l : Lent) where
+-- drawings of as many places are as long
+same-long : (P Q : Picture) (rest : List ℕ) → limitsOf P ≡ limitsOf Q → length (draw P ++ rest) ≡ length (draw Q ++ rest)
+same-long P Q rest e =
+    length-append (draw P) rest ∙ ap (λ (n : ℕ). n + length rest) (drawn-long P ∙ ap (λ (L : Limits). kind.size (L .places)) e ∙ sym (drawn-long Q)) ∙ sym (length-append (draw Q) rest)
+
+-- of w and m words the fewer are too few for a table that m words hold: so w are
+fewer-short : (w m size : ℕ) → size ≤ m → min w m < size → w < size
+fewer-short w m size h l =
+    elim (decLe w m) [
+      | yes k ↦ omega (arith, min-eq-left k)
+      | no g ↦ (let k : m ≤ w = omega (arith, g) in omega (arith, min-eq-right k))
+    ]
+
+-- a call that is no lay-out: it has k to say, and carries out cs
+record Carrying (c : Call) (k : Says) (cs : List Command) : Type 0 where
+  pub says : (t : List ℕ) → reply c t ≡ saidIn k t
+  pub leaves : (t : List ℕ) → words c t ≡ afterwards (λ P. nextAll P cs) t
+
+-- w words of a slice are lent to it
+module _ (S : Slice) (v : Right (S .picture)) (w : ℕ) (c : Call) (k : Says) (cs : List Command) (p : Carrying c k cs) where
+  abbrev P : Picture
+  P = S .picture
+
   abbrev t : List ℕ
-  t = draw P ++ rest
+  t = drawnOut S
 
-  whole-lent : (m : ℕ) → (take (kind.size (P .places) + m) t ≡ draw P ++ take m rest) × (drop (kind.size (P .places) + m) t ≡ drop m rest)
-  whole-lent m = rw (← drawn-long P) (take-append-add (draw P) rest m, drop-append-add (draw P) rest m)
+  abbrev n : ℕ
+  n = min w (length t)
 
-  long-enough : short (P .places) l ≡ false → Comes P rest l
+  abbrev Carries : Type 0
+  Carries = Meets S (reply c (take w t)) (saidOf n (stateOf S) k) (words c (take w t) ++ drop w t) (carriedIn n S cs) (carriedOn n (stateOf S) cs)
+
+  whole-lent : (m : ℕ) → (take (kind.size (P .places) + m) t ≡ draw P ++ take m (S .beyond)) × (drop (kind.size (P .places) + m) t ≡ drop m (S .beyond))
+  whole-lent m = rw (← drawn-long P) (take-append-add (draw P) (S .beyond) m, drop-append-add (draw P) (S .beyond) m)
+
+  long-enough : short n (stateOf S) ≡ false → Carries
   long-enough e =
-      let m : ℕ = l .words - kind.size (P .places) in
-      let n : l .words ≡ kind.size (P .places) + m = omega (arith, ltb-false (l .words) (kind.size (P .places)) e) in
+      let m : ℕ = w - kind.size (P .places) in
+      let is : w ≡ kind.size (P .places) + m = omega (arith, ltb-false n (kind.size (P .places)) e, min-le-left w (length t)) in
       let (a, b) = whole-lent m in
-      let lent : take (l .words) t ≡ draw P ++ take m rest = ap (λ (k : ℕ). take k t) n ∙ a in
-      let beyond : drop (l .words) t ≡ drop m rest = ap (λ (k : ℕ). drop k t) n ∙ b in
+      let front : take w t ≡ draw P ++ take m (S .beyond) = ap (λ (k : ℕ). take k t) is ∙ a in
+      let beyond : drop w t ≡ drop m (S .beyond) = ap (λ (k : ℕ). drop k t) is ∙ b in
+      let step = all-step P v cs in
+      let u : List ℕ = draw P ++ take m (S .beyond) in
+      let zero : verdict u ≡ 0 = drawn-accepted P v (take m (S .beyond)) in
       record {
-        answers = rw (e, lent) (answered (draw P ++ take m rest) (drawn-accepted P v (take m rest)) (drawn-found P v (take m rest)) (l .call));
-        leaves = rw (e, lent, beyond, after-whole P v (l .call) (take m rest)) (append-assoc (draw (pictureStep (l .call) P)) (take m rest) (drop m rest) ∙ ap (λ (r : List ℕ). draw (pictureStep (l .call) P) ++ r) (take-append-drop m rest));
-        step = rw e (call-step (l .call) P v);
+        answers = ap (reply c) front ∙ p .says u ∙ rw (e, zero, drawn-found P v (take m (S .beyond)));
+        leaves = rw (e, front, beyond, p .leaves u, drawn-after P v (take m (S .beyond)) (λ P. nextAll P cs))
+            (append-assoc (draw (nextAll P cs)) (take m (S .beyond)) (drop m (S .beyond)) ∙ ap (λ (r : List ℕ). draw (nextAll P cs) ++ r) (take-append-drop m (S .beyond)));
+        long = rw e (same-long (nextAll P cs) P (S .beyond) (step .limits));
+        right = rw e (step .right);
+        goes = rw e (ap₂ state (step .limits) (step .plain));
       }
 
-  too-short : short (P .places) l ≡ true → Comes P rest l
+  too-short : short n (stateOf S) ≡ true → Carries
   too-short e =
-      let h : l .words < kind.size (P .places) = ltb-true (l .words) (kind.size (P .places)) e in
+      let h : w < kind.size (P .places) = fewer-short w (length t) (kind.size (P .places)) (long P v (S .beyond)) (ltb-true n (kind.size (P .places)) e) in
+      let two : verdict (take w t) ≡ number.tooShort = short-refused P v (S .beyond) w h in
       record {
-        answers = rw e (not-answered (take (l .words) t) (short-refused P v rest (l .words) h) (l .call));
-        leaves = rw (e, after-short P v (l .call) rest (l .words) h) (take-append-drop (l .words) t);
-        step = rw e (stay P v);
+        answers = p .says (take w t) ∙ rw (e, two);
+        leaves = rw (e, p .leaves (take w t), refused-stay (λ P. nextAll P cs) (take w t) (λ z. omega (arith, two, z))) (take-append-drop w t);
+        long = rw e refl;
+        right = rw e v;
+        goes = rw e refl;
       }
 
-  pub comes : Comes P rest l
-  comes = go (short (P .places) l) refl
+  carries : Carries
+  carries = go (short n (stateOf S)) refl
     where
-      go : (b : Bool) → short (P .places) l ≡ b → Comes P rest l
+      go : (b : Bool) → short n (stateOf S) ≡ b → Carries
       go true e = too-short e
       go false e = long-enough e
+
+-- a lay-out that is refused leaves the words
+pub lay-out-stays : (q : ℕ) (t : List ℕ) → (layOutNumber q (length t) ≡ 0 → ⊥) → laidOut q t ≡ t
+unfolding laidOut
+lay-out-stays q t n = rw (ne-eqb (layOutNumber q (length t)) 0 n)
+
+-- w words of a slice are lent to a lay-out
+module _ (S : Slice) (v : Right (S .picture)) (w q : ℕ) where
+  abbrev all : List ℕ
+  all = drawnOut S
+
+  number-is : layOutNumber q (length (take w all)) ≡ layOutNumber q (min w (length all))
+  number-is = ap (layOutNumber q) (length-take w all)
+
+  laid-out : eqb (layOutNumber q (min w (length all))) 0 ≡ true → Comes S (lent w (layOut q))
+  laid-out e =
+      let zero : layOutNumber q (length (take w all)) ≡ 0 = number-is ∙ eqb-true (layOutNumber q (min w (length all))) 0 e in
+      let (r, h) = accepted q (length (take w all)) zero in
+      let fits : kind.size q ≤ length all = omega (arith, h, length-take w all, min-le-right w (length all)) in
+      record {
+        answers = ap laid number-is;
+        leaves = rw e
+            (ap (λ (u : List ℕ). u ++ drop w all) (laid-is q (take w all) zero)
+            ∙ append-assoc (draw (empty q)) (drop (kind.size q) (take w all)) (drop w all)
+            ∙ ap (λ (u : List ℕ). draw (empty q) ++ u) (sym (drop-append-le (kind.size q) (take w all) (drop w all) h) ∙ ap (drop (kind.size q)) (take-append-drop w all)));
+        long = rw e (length-append (draw (empty q)) (drop (kind.size q) all) ∙ omega (arith, drawn-long (empty q), length-drop (kind.size q) all, fits));
+        right = rw e (empty-right q r);
+        goes = rw e refl;
+      }
+
+  not-laid-out : eqb (layOutNumber q (min w (length all))) 0 ≡ false → Comes S (lent w (layOut q))
+  not-laid-out e =
+      record {
+        answers = ap laid number-is;
+        leaves = rw e (ap (λ (u : List ℕ). u ++ drop w all) (lay-out-stays q (take w all) (λ z. eqb-false (layOutNumber q (min w (length all))) 0 e (sym number-is ∙ z))) ∙ take-append-drop w all);
+        long = rw e refl;
+        right = rw e v;
+        goes = rw e refl;
+      }
+
+  lays-out : Comes S (lent w (layOut q))
+  lays-out = go (eqb (layOutNumber q (min w (length all))) 0) refl
+    where
+      go : (b : Bool) → eqb (layOutNumber q (min w (length all))) 0 ≡ b → Comes S (lent w (layOut q))
+      go true e = laid-out e
+      go false e = not-laid-out e
+
+-- whichever call it is
+pub comes : (S : Slice) → Right (S .picture) → (l : Lent) → Comes S l
+comes S v l = go (l .call) (l .words)
+  where
+    go : (c : Call) (w : ℕ) → Comes S (lent w c)
+    go (carry c) w = carries S v w (carry c) (commandSays c) (c ∷ []) (record { says = command-said c; leaves = command-words c })
+    go (run day bytes budget) w =
+        carries S v w (run day bytes budget) (runSays bytes budget) (carried budget bytes) (record { says = λ t. side-by-side ran (eqb (verdict t) 0) refl refl; leaves = λ t. refl })
+    go (ask x) w =
+        let k = carries S v w (ask x) (questionSays x) [] (record { says = question-said x; leaves = λ t. sym (all-stay (λ P. P) t refl) }) in
+        record { answers = k .answers; leaves = take-append-drop w (drawnOut S); long = refl; right = v; goes = refl }
+    go (layOut q) w = lays-out S v w q

@@ -1,23 +1,27 @@
--- Lent words that begin with the drawing of a right picture: no call refuses them, and it finds that picture in them; a part that is too short is refused with 2.
-use mathlib.Core.Bool.{true}
+-- Lent words that begin with the drawing of a right picture: no call refuses them, and it finds that picture in them; a part that is too short is refused with 2. And words that a step leaves as they are.
+use mathlib.Core.Bool.{Bool, true, false, cond}
 use mathlib.Core.List.{List, _++_}
-use mathlib.Core.Path.{_≡_, _∙_}
+use mathlib.Core.Path.{_≡_, refl, sym, ap, _∙_}
 use Prim.Native.Nat.{ℕ, _≤_, _<_}
 use native.Mathlib.Decide.{decLt}
 use native.Mathlib.Omega.{arith}
-use lib.Dec.{lit<}
-use lib.ListN.{length, getD, take, length-append, List·getD-append}
+use lib.Dec.{lit<, eqb}
+use lib.ListN.{length, getD, take, drop, length-append, List·getD-append, take-append-drop}
 use lib.Seq.{take-at, drop-at, length-take-le, getD-take}
-use borrow.Author.Tests.{le-ltb, lt-ltb}
+use borrow.Author.Tests.{le-ltb, lt-ltb, eqb-true, ne-eqb}
 use Rattle.table.specs.Kind as kind
 use Rattle.table.specs.Regions.{words}
 use Rattle.table.proofs.Draw.{length-words, get-header}
+use Rattle.rules.specs.Numbers as number
 use Rattle.rules.specs.Picture.{Picture}
 use Rattle.rules.specs.Draw.{drawn, draw}
-use Rattle.rules.specs.Sound.{picture, Right}
+use Rattle.rules.specs.Sound.{Right}
 use Rattle.rules.specs.Verdict.{room, verdict, afterwards}
 use Rattle.rules.proofs.Decide.{range-decides}
 use Rattle.rules.proofs.Sound.{picture-draw, draw-sound}
+use Rattle.rules.proofs.Ready.{ready-drawn}
+use Rattle.limiter.specs.Lent.{lent}
+use Rattle.limiter.proofs.Lent.{accepted}
 
 pub drawn-long : (P : Picture) → length (draw P) ≡ kind.size (P .places)
 unfolding draw
@@ -38,7 +42,7 @@ module _ (P : Picture) (v : Right P) (rest : List ℕ) where
   mark : getD t kind.markAt 0 ≡ kind.mark
   mark = header kind.markAt (lit< tt)
 
-  size : getD t kind.placesAt 0 ≡ P .places
+  places : getD t kind.placesAt 0 ≡ P .places
   places = header kind.placesAt (lit< tt)
 
   table : take (kind.size (P .places)) t ≡ draw P
@@ -50,29 +54,42 @@ module _ (P : Picture) (v : Right P) (rest : List ℕ) where
   pub drawn-accepted : verdict t ≡ 0
   unfolding verdict
   drawn-accepted =
-      rw (le-ltb (length t) kind.headerWords (omega (arith, long)), mark, size, in-range, le-ltb (length t) (kind.size (P .places)) long, table, draw-sound P v)
+      rw (le-ltb (length t) kind.headerWords (omega (arith, long)), mark, places, in-range, le-ltb (length t) (kind.size (P .places)) long, table, draw-sound P v)
 
-  pub drawn-found : picture (take (room t) t) ≡ P
-  drawn-found = rw (size, table) (picture-draw P v)
+  pub drawn-found : lent t ≡ P
+  drawn-found = rw (places, table) (picture-draw P v)
 
   pub drawn-after : (f : Picture → Picture) → afterwards f t ≡ draw (f P) ++ rest
   unfolding afterwards
-  drawn-after f = rw (drawn-accepted, drawn-found, size, drop-at (draw P) rest (kind.size (P .places)) (drawn-long P))
+  drawn-after f = rw (drawn-accepted, drawn-found, places, drop-at (draw P) rest (kind.size (P .places)) (drawn-long P))
 
   -- lent fewer words than the table takes
   module _ (n : ℕ) (h : n < kind.size (P .places)) where
     part-long : length (take n t) ≡ n
     part-long = length-take-le n t (omega (arith, long))
 
-    pub short-refused : verdict (take n t) ≡ 2
+    pub short-refused : verdict (take n t) ≡ number.tooShort
     unfolding verdict
     short-refused =
         elim (decLt n kind.headerWords) [
           | yes l ↦ rw (part-long, lt-ltb n kind.headerWords l)
           | no g ↦
-              rw (part-long, le-ltb n kind.headerWords (omega (arith, g)), getD-take n t kind.markAt 0 (omega (arith, g)), getD-take n t kind.placesAt 0 (omega (arith, g)), mark, size, in-range, lt-ltb n (kind.size (P .places)) h)
+              rw (part-long, le-ltb n kind.headerWords (omega (arith, g)), getD-take n t kind.markAt 0 (omega (arith, g)), getD-take n t kind.placesAt 0 (omega (arith, g)), mark, places, in-range, lt-ltb n (kind.size (P .places)) h)
         ]
 
-    pub short-after : (f : Picture → Picture) → afterwards f (take n t) ≡ take n t
-    unfolding afterwards
-    short-after f = rw short-refused
+-- any words: as they were where the table is refused, and where the step leaves the picture in them
+module _ (f : Picture → Picture) (t : List ℕ) where
+  pub refused-stay : (verdict t ≡ 0 → ⊥) → afterwards f t ≡ t
+  unfolding afterwards
+  refused-stay n = rw (ne-eqb (verdict t) 0 n)
+
+  pub all-stay : f (lent t) ≡ lent t → afterwards f t ≡ t
+  unfolding afterwards
+  all-stay e = go (eqb (verdict t) 0) refl
+    where
+      go : (b : Bool) → eqb (verdict t) 0 ≡ b → cond b (draw (f (lent t)) ++ drop (room t) t) t ≡ t
+      go true z =
+          ap (λ (P : Picture). draw P ++ drop (room t) t) e
+          ∙ ap (λ (u : List ℕ). u ++ drop (room t) t) (sym (ready-drawn (accepted t (eqb-true (verdict t) 0 z) .ready)))
+          ∙ take-append-drop (room t) t
+      go false z = refl

@@ -1,9 +1,12 @@
--- The theorems over any history of calls. Demand 2: `History`, `Run`; demand 3: `Shape`, `Bound`, `Sharing`; the whiteboard: `Cases`. Before them what they rest on.
+-- The theorems over any history of calls. Demand 2: `History`, `Run`, `Day`; demand 3: `Shape`, `Bound`; `Sharing`; where nothing is written: `Unaltered`; that the contracts say what these speak of: `Ties`; the whiteboard: `Cases`. Before them what they rest on.
 pub mod Drawn
 pub mod Call
 pub mod History
 pub mod Run
+pub mod Day
 pub mod Shape
 pub mod Bound
 pub mod Sharing
+pub mod Unaltered
+pub mod Ties
 pub mod Cases

@@ -1,20 +1,21 @@
--- Demand 3: after a lay-out and any calls, the clients are linked both ways, each once, with exact counts that never fall; a row freed is the next one taken.
+-- Demand 3: after a lay-out and any calls, lay-outs among them, the clients are linked both ways, each once, with exact counts that never fall; a row freed is the next one taken.
 use mathlib.Core.Bool.{false}
 use mathlib.Core.List.{List, [], _∷_, _++_, map, map-id}
 use mathlib.Core.Path.{_≡_, refl, sym, ap, ap₂, _∙_, subst}
 use Prim.Native.Nat.{ℕ, _≤_}
 use native.Mathlib.Omega.{arith}
-use lib.ListN.{length, getD, take, drop, length-map}
+use lib.ListN.{length, getD, take, length-map}
 use lib.Seq.{take-at}
 use borrow.Author.Tests.{lt-leb}
 use Rattle.table.specs.Kind as kind
 use Rattle.table.specs.Regions.{regions, clientWord}
+use Rattle.table.specs.Owners.{orderWords}
 use Rattle.rules.specs.Rows.{headOr, lastOr, rest, In, NotIn, All, Distinct, Rising}
 use Rattle.rules.specs.Linked as linked
 use Rattle.rules.specs.Linked.{Linked}
-use Rattle.rules.specs.History.{Request, Waiting, nobody, count, full, choice, evicted}
-use Rattle.rules.specs.Picture.{Item, Client, Picture, item, itemRow, clientRow, clientId, itemRows, clientRows, countOf, requestOf, plain}
-use Rattle.rules.specs.Steps.{empty, withoutItem, admitted, known, join, leave, newestItem, frontItem, arrived, slid, served}
+use Rattle.rules.specs.History.{Request, Waiting, Limits, count, full, choice, evicted}
+use Rattle.rules.specs.Picture.{Item, Client, Picture, item, itemRow, clientRow, clientId, itemRows, clientRows, countOf, requestOf, limitsOf, plain}
+use Rattle.rules.specs.Steps.{withoutItem, admitted, known, join, leave, newestItem, frontItem, arrived, slid, served}
 use Rattle.rules.specs.Draw.{draw}
 use Rattle.rules.specs.Sound.{picture, Right, Sound}
 use Rattle.rules.specs.Ready.{Ready}
@@ -25,16 +26,17 @@ use Rattle.rules.proofs.Choose.{either-way}
 use Rattle.rules.proofs.Columns.{chain-head}
 use Rattle.rules.proofs.Sound.{sound-clauses}
 use Rattle.rules.proofs.Right.{clients-distinct, places}
+use Rattle.rules.proofs.Rule.{choice-joined}
 use Rattle.rules.proofs.Plain.{clients-plain}
 use Rattle.rules.proofs.Settle.{Step}
 use Rattle.rules.proofs.Moves.{join-new, leave-frees, leave-last}
 use Rattle.rules.proofs.Leaving.{front-step}
-use Rattle.rules.proofs.Ready.{ready-right, ready-holds, drawn-ready, drawn-picture}
-use Rattle.steps.specs.Items.{evicted as heaviestLeft}
-use Rattle.steps.proofs.Choices.{choice-joined, arrived-by, slid-joined, served-front}
-use Rattle.history.specs.Calls.{Lent, tableAfter, plainAfter, pictureAfter}
+use Rattle.rules.proofs.Ready.{ready-right, ready-holds, ready-queued, ready-ordered, drawn-ready, drawn-picture}
+use Rattle.history.specs.Plain.{Lent, State}
+use Rattle.history.specs.Words.{tableAfter}
 use Rattle.history.proofs.Drawn.{drawn-long}
-use Rattle.history.proofs.History.{the-table, the-history, the-places, the-right}
+use Rattle.history.proofs.History.{left, history, the-table, the-state, the-right}
+use Rattle.steps.proofs.Choices.{arrived-by, slid-joined, served-front}
 
 -- a word of each client's row that is a value of its id
 by-id : (word value : ℕ → ℕ) (cs : List Client) → All (λ c. word (c .row) ≡ value (c .id)) cs → map word (map clientRow cs) ≡ map value (map clientId cs)
@@ -47,10 +49,10 @@ module _ {q : ℕ} {t : List ℕ} (y : Ready q t) where
   P = picture t
 
   counted : (r : ℕ) → In r (clientRows P) → clientWord t q r kind.count ≡ countOf (P .window) r
-  counted = ready-holds y .counted
+  counted = ready-ordered y .counted
 
   ids : map (λ r. clientWord t q r kind.id) (clientRows P) ≡ plain P .order
-  ids = by-id (λ r. clientWord t q r kind.id) (λ i. i) (P .clients) (ready-holds y .id) ∙ map-id (plain P .order)
+  ids = by-id (λ r. clientWord t q r kind.id) (λ i. i) (P .clients) (ready-holds y .ids) ∙ map-id (plain P .order)
 
   counts : map (λ r. clientWord t q r kind.count) (clientRows P) ≡ map (λ i. count i (plain P .window)) (plain P .order)
   counts =
@@ -66,25 +68,36 @@ module _ {q : ℕ} {t : List ℕ} (y : Ready q t) where
 
 -- w is any slice in which a table of q places can be laid out
 module _ (q : ℕ) (w : List ℕ) (laid : layOutNumber q (length w) ≡ 0) (calls : List Lent) where
-  -- the table in it after the calls, and who waits then by the plain history
-  abbrev pub table : List ℕ
-  table = take (kind.size q) (tableAfter calls (laidOut q w))
-
+  -- after the calls: who waits by the plain history, in how many places, the table in the slice, and its picture
   abbrev pub waiting : Waiting
-  waiting = plainAfter q nobody calls
+  waiting = history q w calls .waiting
 
-  after : Step q waiting (pictureAfter (empty q) calls)
-  after = record { right = the-right q w laid calls; places = the-places q w laid calls; plain = the-history q w laid calls }
+  abbrev pub size : ℕ
+  size = history q w calls .limits .places
 
-  drawn : table ≡ draw (pictureAfter (empty q) calls)
+  abbrev pub table : List ℕ
+  table = take (kind.size size) (tableAfter calls (laidOut q w))
+
+  abbrev pub now : Picture
+  now = left q w calls .picture
+
+  after : Step (history q w calls .limits) waiting now
+  after =
+      record {
+        right = the-right q w laid calls;
+        limits = ap (λ (s : State). s .limits) (the-state q w laid calls);
+        plain = ap (λ (s : State). s .waiting) (the-state q w laid calls);
+      }
+
+  drawn : table ≡ draw now
   drawn =
-      let P : Picture = pictureAfter (empty q) calls in
-      ap (take (kind.size q)) (the-table q w laid calls) ∙ take-at (draw P) (drop (kind.size q) w) (kind.size q) (drawn-long P ∙ ap kind.size (the-places q w laid calls))
+      ap (take (kind.size size)) (the-table q w laid calls)
+      ∙ take-at (draw now) (left q w calls .beyond) (kind.size size) (drawn-long now ∙ ap (λ (L : Limits). kind.size (L .places)) (after .limits))
 
-  pub table-ready : Ready q table
+  pub table-ready : Ready size table
   table-ready = drawn-ready after drawn
 
-  pub table-picture : picture table ≡ pictureAfter (empty q) calls
+  pub table-picture : picture table ≡ now
   table-picture = drawn-picture after drawn
 
   waits : plain (picture table) ≡ waiting
@@ -95,32 +108,30 @@ module _ (q : ℕ) (w : List ℕ) (laid : layOutNumber q (length w) ≡ 0) (call
   table-sound = sound-clauses table (table-ready .sound)
 
   -- the client links visit the same rows both ways, each once
-  pub linked-both-ways : Linked q (linked.order (regions q table)) (clientRows (picture table))
-  linked-both-ways =
-      subst (λ (n : ℕ). Linked n (linked.order (regions q table)) (clientRows (picture table))) (table-ready .places) (ready-holds table-ready .order)
+  pub linked-both-ways : Linked size (linked.order (orderWords (regions size table))) (clientRows (picture table))
+  linked-both-ways = ready-ordered table-ready .linked
 
   -- they hold the waiting clients, lightest first, each once
-  pub each-once : (map (λ r. clientWord table q r kind.id) (clientRows (picture table)) ≡ waiting .order) × Distinct (waiting .order)
+  pub each-once : (map (λ r. clientWord table size r kind.id) (clientRows (picture table)) ≡ waiting .order) × Distinct (waiting .order)
   each-once = (
     ids table-ready ∙ ap (λ (s : Waiting). s .order) waits,
     subst (λ (s : Waiting). Distinct (s .order)) waits (ready-right table-ready .ids),
   )
 
   -- each with its count by the plain history
-  pub counts-exact : map (λ r. clientWord table q r kind.count) (clientRows (picture table)) ≡ map (λ i. count i (waiting .window)) (waiting .order)
+  pub counts-exact : map (λ r. clientWord table size r kind.count) (clientRows (picture table)) ≡ map (λ i. count i (waiting .window)) (waiting .order)
   counts-exact = counts table-ready ∙ ap (λ (s : Waiting). map (λ i. count i (s .window)) (s .order)) waits
 
   -- from 1 up and never falling from lightest to heaviest
-  pub counts-never-fall : Rising 1 (map (λ r. clientWord table q r kind.count) (clientRows (picture table)))
+  pub counts-never-fall : Rising 1 (map (λ r. clientWord table size r kind.count) (clientRows (picture table)))
   counts-never-fall = rise table-ready
 
   -- the header names the first free rows
-  pub first-free : (getD table kind.freeItemAt 0 ≡ headOr kind.none (pictureAfter (empty q) calls .freeItems)) × (getD table kind.freeClientAt 0 ≡ headOr kind.none (pictureAfter (empty q) calls .freeClients))
-  first-free =
-      let h = ready-holds table-ready in (
-        chain-head _ _ (picture table .freeItems) (h .freeItems) ∙ ap (λ (P : Picture). headOr kind.none (P .freeItems)) table-picture,
-        chain-head _ _ (picture table .freeClients) (h .freeClients) ∙ ap (λ (P : Picture). headOr kind.none (P .freeClients)) table-picture,
-      )
+  pub first-free : (getD table kind.freeItemAt 0 ≡ headOr kind.none (now .freeItems)) × (getD table kind.freeClientAt 0 ≡ headOr kind.none (now .freeClients))
+  first-free = (
+    chain-head _ _ (picture table .freeItems) (ready-queued table-ready .chain) ∙ ap (λ (P : Picture). headOr kind.none (P .freeItems)) table-picture,
+    chain-head _ _ (picture table .freeClients) (ready-ordered table-ready .chain) ∙ ap (λ (P : Picture). headOr kind.none (P .freeClients)) table-picture,
+  )
 
 -- a request that joins takes the first free item row; a new client takes the first free client row
 module _ (P : Picture) (id ticket : ℕ) where
@@ -148,9 +159,9 @@ module _ (P : Picture) (i : Item) (id ticket : ℕ) where
       let frees : leave P i .freeClients ≡ i .client ∷ P .freeClients = ap (λ (J : Picture). J .freeClients) (leave-last P i none) in
       (a ∙ rw (leave-frees P i, frees), b ∙ rw frees)
 
--- so an arrival that evicts stands in the row of the request that left
-pub evicted-row-next : (P : Picture) (id ticket : ℕ) {r : Request} → choice (P .places) (plain P) id ≡ evicted r
-    → itemRows (arrived P id ticket) ≡ itemRows (heaviestLeft P) ++ newestItem (lastOr kind.none (clientRows P)) (item 0 0 0) (P .window) .row ∷ []
+-- so an arrival that evicts stands in the row of the request that left, the heaviest client's newest
+pub evicted-row-next : (P : Picture) (id ticket : ℕ) {r : Request} → choice (limitsOf P) (plain P) id ≡ evicted r
+    → (let gone : Item = newestItem (lastOr kind.none (clientRows P)) (item 0 0 0) (P .window) in itemRows (arrived P id ticket) ≡ itemRows (leave P gone) ++ gone .row ∷ [])
 evicted-row-next P id ticket e = ap itemRows (arrived-by P id ticket e) ∙ freed-item-next P _ id ticket .0
 
 -- and after a serve the next arrival, or slide, in the row of the request that was served
@@ -161,7 +172,7 @@ module _ (P : Picture) (v : Right P) (h : 1 ≤ length (P .window)) (id ticket :
   goes : served P ≡ leave P front
   goes = served-front P (λ e. omega (arith, e, h))
 
-  has-room : full (leave P front .places) (plain (leave P front)) ≡ false
+  has-room : full (limitsOf (leave P front)) (plain (leave P front)) ≡ false
   has-room =
       let J : Picture = leave P front in
       let one : 1 ≤ length (J .freeItems) = rw (leave-frees P front) (omega arith) in
@@ -171,6 +182,6 @@ module _ (P : Picture) (v : Right P) (h : 1 ≤ length (P .window)) (id ticket :
   served-row-next =
       let J : Picture = leave P front in
       rw goes (
-        ap itemRows (arrived-by J id ticket (choice-joined (J .places) (plain J) id has-room)) ∙ freed-item-next P front id ticket .0,
+        ap itemRows (arrived-by J id ticket (choice-joined (limitsOf J) (plain J) id has-room)) ∙ freed-item-next P front id ticket .0,
         ap itemRows (slid-joined J id ticket has-room) ∙ freed-item-next P front id ticket .0,
       )

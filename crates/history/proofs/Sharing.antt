@@ -1,82 +1,113 @@
--- Sharing, over any history of calls: no arrival turns away or evicts a client whose waiting requests times the clients waiting come to less than the window.
+-- Sharing, over any history of calls: no arrival turns away or evicts a client whose waiting requests times the clients waiting come to less than the window; a single arrive by its reply, and one that a run carries out by what it comes to at its place.
 use mathlib.Core.Bool.{Bool, true, false, cond}
-use mathlib.Core.List.{List, [], _++_}
-use mathlib.Core.Path.{_≡_, refl, sym, ap, ap₂, _∙_, subst}
-use Prim.Native.Nat.{ℕ, _*_, _<_}
+use mathlib.Core.List.{List, _∷_, _++_}
+use mathlib.Core.Path.{_≡_, refl, sym, ap, _∙_, subst}
+use Prim.Native.Nat.{ℕ, _*_, _≤_, _<_, min}
 use native.Mathlib.Omega.{arith}
-use lib.ListN.{length, getD, take}
-use Rattle.rules.specs.History.{Waiting, nobody, count, choice}
-use Rattle.rules.specs.Picture.{Picture, plain}
-use Rattle.rules.specs.Steps.{empty}
-use Rattle.rules.specs.Draw.{draw}
-use Rattle.rules.specs.Sound.{Right}
+use lib.ListN.{length, take}
+use Rattle.rules.specs.History as history
+use Rattle.rules.specs.History.{Request, Choice, request, count, choice}
+use Rattle.rules.specs.Commands as commands
+use Rattle.rules.specs.Commands.{Command, arriving, outcome, step, ofChoice}
+use Rattle.rules.specs.Run.{carried, after, outcomes, nextAll}
 use Rattle.rules.specs.Verdict.{layOutNumber, laidOut}
-use Rattle.steps.specs.Replies.{arrivedReply}
-use Rattle.steps.specs.declared.Request.{Request}
-use Rattle.steps.specs.declared.Arrived.{Arrived}
-use Rattle.steps.specs.declared.Arrived.the-variants as tells
-use Rattle.limiter.specs.Lent.{waitingIn}
-use Rattle.limiter.specs.Calls.{placesIn, arriveAnswer, arrivedNumbers}
-use Rattle.limiter.proofs.Sharing.{reply-not-turned, reply-not-evicted}
-use Rattle.history.specs.Calls.{Lent, lent, arriving, Reply, arrived, slid, served, ran, listed, counted, told, reply, tableAfter, short, plainAfter, pictureAfter}
-use Rattle.history.proofs.Drawn.{drawn-accepted, drawn-found}
-use Rattle.history.proofs.Call.{given}
-use Rattle.history.proofs.History.{the-history, the-places, the-right, next-reply}
+use Rattle.rules.proofs.Sharing.{Fair, right-fair, turned-share, evicted-share}
+use Rattle.rules.proofs.Run.{all-step, outcomes-append}
+use Rattle.answers.specs.Engine.{asChoice, asStruct}
+use Rattle.answers.specs.Offered.{arrivedOf}
+use Rattle.answers.specs.declared.Request as code
+use Rattle.answers.specs.declared.Refusal.{Refusal}
+use Rattle.answers.specs.declared.Arrived.the-variants as tells
+use Rattle.history.specs.Plain.{Lent, lent, carry, arrived, State, state, short}
+use Rattle.history.specs.Words.{reply, tableAfter}
+use Rattle.history.proofs.Unaltered.{turned-away}
+use Rattle.history.proofs.History as history-after
+use Rattle.history.proofs.History.{left, the-state, the-right, next-reply}
 
--- on a right picture, whose drawing is a table that no call refuses
-module _ (P : Picture) (v : Right P) (i : ℕ) (light : count i (plain P .window) * length (plain P .order) < P .places) where
-  abbrev t : List ℕ
-  t = draw P ++ []
+-- what replies and outcomes say of the choice
+chosen-turned : (b : Bool) (x : Refusal) (c : Choice) → cond b (arrived (tells.Refused x)) (arrived (arrivedOf (asChoice c))) ≡ arrived tells.Turned → c ≡ history.turned
+chosen-turned true x c e = let z : _≡_ {A = ℕ} 0 1 = cc in absurd (omega arith)
+chosen-turned false x c e = turned-away c (cc)
 
-  promised : (j : ℕ) → arrivedReply (choice (P .places) (plain P) j) ≡ arriveAnswer j t
-  promised j = sym (given t (drawn-accepted P v []) (drawn-found P v []) tells.Refused (λ X. arrivedReply (choice (X .places) (plain X) j)))
+-- the request that left
+record Gone (c : Choice) (i : ℕ) : Type 0 where
+  pub request : Request
+  pub is : c ≡ history.evicted request
+  pub named : request .id ≡ i
 
-  light-there : count i (waitingIn t .window) * length (waitingIn t .order) < placesIn t
-  light-there = subst (λ (X : Picture). count i (plain X .window) * length (plain X .order) < X .places) (sym (drawn-found P v [])) light
+chosen-evicted : (b : Bool) (x : Refusal) (c : Choice) (r : code.Request) → cond b (arrived (tells.Refused x)) (arrived (arrivedOf (asChoice c))) ≡ arrived (tells.Evicted r) → Gone c (r .id)
+chosen-evicted true x c r e = let z : _≡_ {A = ℕ} 0 1 = cc in absurd (omega arith)
+chosen-evicted false x history.joined r e = let z : _≡_ {A = ℕ} 0 1 = cc in absurd (omega arith)
+chosen-evicted false x (history.evicted y) r e =
+    let same : asStruct y ≡ r = cc in
+    record { request = y; is = refl; named = ap (λ (z : code.Request). z .id) same }
+chosen-evicted false x history.turned r e = let z : _≡_ {A = ℕ} 0 1 = cc in absurd (omega arith)
 
-  shown-turned : arrivedReply (choice (P .places) (plain P) i) ≡ tells.Turned → ⊥
-  shown-turned = reply-not-turned t i (sym (drawn-accepted P v [])) light-there (promised i)
+outcome-turned : (c : Choice) → ofChoice c ≡ commands.turned → c ≡ history.turned
+outcome-turned history.joined e = let z : _≡_ {A = ℕ} 0 1 = cc in absurd (omega arith)
+outcome-turned (history.evicted r) e = let z : _≡_ {A = ℕ} 0 1 = cc in absurd (omega arith)
+outcome-turned history.turned e = refl
 
-  shown-evicted : (j : ℕ) (r : Request) → arrivedReply (choice (P .places) (plain P) j) ≡ tells.Evicted r → r .id ≡ i → ⊥
-  shown-evicted j r = reply-not-evicted t i (sym (drawn-accepted P v [])) light-there j r (promised j)
+outcome-evicted : (c : Choice) (r : Request) → ofChoice c ≡ commands.evicted r → c ≡ history.evicted r
+outcome-evicted history.joined r e = let z : _≡_ {A = ℕ} 0 1 = cc in absurd (omega arith)
+outcome-evicted (history.evicted x) r e = let same : x ≡ r = cc in ap history.evicted same
+outcome-evicted history.turned r e = let z : _≡_ {A = ℕ} 0 1 = cc in absurd (omega arith)
 
--- a reply that is no refusal is the choice's, not that of a call that is lent too few words
-abbrev arriveOf : Reply → Arrived
-arriveOf (arrived a) = a
-arriveOf (slid a) = tells.Joined
-arriveOf (served a) = tells.Joined
-arriveOf (ran a) = tells.Joined
-arriveOf (listed a out) = tells.Joined
-arriveOf (counted a) = tells.Joined
-arriveOf (told a) = tells.Joined
+-- client i is light where s waits within limits
+abbrev pub Light : ℕ → State → Type 0
+Light i s = count i (s .waiting .window) * length (s .waiting .order) < s .limits .places
 
-chosen : (b : Bool) (a r : Arrived) → getD (arrivedNumbers r) 0 0 ≡ 0 → cond b (arrived (tells.Refused 2)) (arrived a) ≡ arrived r → a ≡ r
-chosen true a r z e =
-    let two : _≡_ {A = ℕ} 2 0 = ap (λ (x : Reply). getD (arrivedNumbers (arriveOf x)) 0 0) e ∙ z in absurd (omega (arith, two))
-chosen false a r z e = ap arriveOf e
+-- it is not turned away there, and none of its requests is evicted
+module _ (s : State) (fair : Fair (s .waiting)) (i : ℕ) (light : Light i s) where
+  not-turned : choice (s .limits) (s .waiting) i ≡ history.turned → ⊥
+  not-turned e = omega (arith, light, turned-share (s .limits) (s .waiting) fair i e)
 
--- after a lay-out and any calls, of a client i that is light by the plain history, and with any number of words lent
-module _ (q : ℕ) (w : List ℕ) (laid : layOutNumber q (length w) ≡ 0) (calls : List Lent) (i : ℕ)
-    (light : count i (plainAfter q nobody calls .window) * length (plainAfter q nobody calls .order) < q) where
-  abbrev P : Picture
-  P = pictureAfter (empty q) calls
+  not-evicted : (j : ℕ) (r : Request) → choice (s .limits) (s .waiting) j ≡ history.evicted r → r .id ≡ i → ⊥
+  not-evicted j r e n =
+      let share = evicted-share (s .limits) (s .waiting) fair j r e in
+      omega (arith, light, subst (λ (k : ℕ). s .limits .places ≤ count k (s .waiting .window) * length (s .waiting .order)) n share)
 
-  light-shown : count i (plain P .window) * length (plain P .order) < P .places
-  light-shown =
-      subst (λ (s : Waiting). count i (s .window) * length (s .order) < P .places) (sym (the-history q w laid calls))
-      (subst (λ (n : ℕ). count i (plainAfter q nobody calls .window) * length (plainAfter q nobody calls .order) < n) (sym (the-places q w laid calls)) light)
+-- after a lay-out and any calls
+module _ (q : ℕ) (w : List ℕ) (laid : layOutNumber q (length w) ≡ 0) (calls : List Lent) where
+  abbrev now : State
+  now = history-after.history q w calls
 
-  is-choice : (j : ℕ) → arrivedReply (choice (P .places) (plain P) j) ≡ arrivedReply (choice q (plainAfter q nobody calls) j)
-  is-choice j = ap₂ (λ (n : ℕ) (s : Waiting). arrivedReply (choice n s j)) (the-places q w laid calls) (the-history q w laid calls)
+  now-fair : Fair (now .waiting)
+  now-fair = subst (λ (s : State). Fair (s .waiting)) (the-state q w laid calls) (right-fair (left q w calls .picture) (the-right q w laid calls))
 
-  -- it is not turned away
-  pub never-turned-away : (n ticket : ℕ) → reply (arriving i ticket) (take n (tableAfter calls (laidOut q w))) ≡ arrived tells.Turned → ⊥
-  never-turned-away n ticket e =
-      let l = lent n (arriving i ticket) in
-      shown-turned P (the-right q w laid calls) i light-shown (is-choice i ∙ chosen (short q l) _ tells.Turned refl (sym (next-reply q w laid calls l) ∙ e))
+  -- with any number of words lent, a light client is not turned away
+  pub never-turned-away : (i : ℕ) → Light i now → (n ticket : ℕ)
+      → reply (carry (arriving (request i ticket))) (take n (tableAfter calls (laidOut q w))) ≡ arrived tells.Turned → ⊥
+  never-turned-away i light n ticket e =
+      not-turned now now-fair i light
+      (chosen-turned (short (min n (length w)) now) _ _ (sym (next-reply q w laid calls (lent n (carry (arriving (request i ticket))))) ∙ e))
 
   -- and whoever arrives, none of its requests is evicted
-  pub never-evicted : (j n ticket : ℕ) (r : Request) → reply (arriving j ticket) (take n (tableAfter calls (laidOut q w))) ≡ arrived (tells.Evicted r) → r .id ≡ i → ⊥
-  never-evicted j n ticket r e =
-      let l = lent n (arriving j ticket) in
-      shown-evicted P (the-right q w laid calls) i light-shown j r (is-choice j ∙ chosen (short q l) _ (tells.Evicted r) refl (sym (next-reply q w laid calls l) ∙ e))
+  pub never-evicted : (i : ℕ) → Light i now → (j n ticket : ℕ) (r : code.Request)
+      → reply (carry (arriving (request j ticket))) (take n (tableAfter calls (laidOut q w))) ≡ arrived (tells.Evicted r) → r .id ≡ i → ⊥
+  never-evicted i light j n ticket r e named =
+      let g = chosen-evicted (short (min n (length w)) now) _ _ r (sym (next-reply q w laid calls (lent n (carry (arriving (request j ticket))))) ∙ e) in
+      not-evicted now now-fair i light j (g .request) (g .is) (g .named ∙ named)
+
+  -- an arrival that a run carries out after the commands before it
+  module _ (bytes : List ℕ) (budget : ℕ) (before later : List Command) (r : Request) (inside : carried budget bytes ≡ before ++ arriving r ∷ later) where
+    -- the plain history at its place
+    abbrev pub place : State
+    place = state (now .limits) (after (now .limits) (now .waiting) before)
+
+    -- what the run's commands come to: in the middle, what it comes to there
+    pub its-outcome : outcomes (now .limits) (now .waiting) (carried budget bytes)
+        ≡ outcomes (now .limits) (now .waiting) before ++ outcome (place .limits) (place .waiting) (arriving r) ∷ outcomes (now .limits) (step (place .limits) (place .waiting) (arriving r)) later
+    its-outcome = ap (outcomes (now .limits) (now .waiting)) inside ∙ outcomes-append (now .limits) (now .waiting) before (arriving r ∷ later)
+
+    place-fair : Fair (place .waiting)
+    place-fair =
+        let P = left q w calls .picture in
+        let k = all-step P (the-right q w laid calls) before in
+        subst Fair (k .plain ∙ (λ i. after (the-state q w laid calls i .limits) (the-state q w laid calls i .waiting) before)) (right-fair (nextAll P before) (k .right))
+
+    pub run-never-turns-away : Light (r .id) place → outcome (place .limits) (place .waiting) (arriving r) ≡ commands.turned → ⊥
+    run-never-turns-away light e = not-turned place place-fair (r .id) light (outcome-turned _ e)
+
+    pub run-never-evicts : (i : ℕ) → Light i place → (x : Request) → outcome (place .limits) (place .waiting) (arriving r) ≡ commands.evicted x → x .id ≡ i → ⊥
+    run-never-evicts i light x e named = not-evicted place place-fair i light (r .id) x (outcome-evicted _ x e) named

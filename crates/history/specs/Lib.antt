@@ -1,3 +1,5 @@
--- What a host may do with a table after a lay-out, and what the plain history says of it.
-pub mod Calls
+-- What a host may do with a slice of words after a lay-out: the plain history of it, its words, the day record, and the whiteboard's cases as calls.
+pub mod Plain
+pub mod Words
+pub mod Day
 pub mod Cases

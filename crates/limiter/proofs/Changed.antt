@@ -20,7 +20,7 @@ use Rattle.limiter.specs.Lent.{lent}
 use Rattle.limiter.proofs.Lent.{refuses, part-size}
 
 -- words that follow both lists alter nothing
-altered-before : (xs ys zs : List ℕ) → length ys ≡ length xs → altered (xs ++ zs) (ys ++ zs) ≡ altered xs ys
+pub altered-before : (xs ys zs : List ℕ) → length ys ≡ length xs → altered (xs ++ zs) (ys ++ zs) ≡ altered xs ys
 altered-before [] [] zs e = altered-same zs
 altered-before [] (y ∷ ys) zs e = absurd (suc-ne-zero (length ys) e)
 altered-before (x ∷ xs) [] zs e = absurd (suc-ne-zero (length xs) (sym e))
