@@ -23,9 +23,8 @@ use Rattle.rules.proofs.Tells.{tells-so}
 use Rattle.free_check.specs.Free.{Blank, Chained}
 use Rattle.free_check.proofs.Once.{free-zero, free-once, once-free}
 use Rattle.items_check.specs.Items.{Items}
-use Rattle.items_check.specs.Check.{shownItem, ownOf, IsClient, Owned, OwnRest, Follows, Whole}
+use Rattle.items_check.specs.Check.{shownItem, ownOf, unmet, IsClient, Owned, OwnLeft, Follows, Whole}
 use Rattle.items_check.proofs.Lists.{between}
-use Rattle.items_check.proofs.WindowTurns.{next-oldest}
 
 -- rows and what they show
 
@@ -47,7 +46,7 @@ module _ (q : ℕ) (R : Regions) (small : q ≤ kind.largest) (cs : List ℕ) (K
   clients c i = (in-below q cs (K .below) c i, K .counted c i)
 
   -- the check passed: so its rows are right
-  module _ (rows free : List ℕ) (f : Follows q R (R .header kind.frontAt) kind.none (λ c. kind.none) (λ c. 0) rows)
+  module _ (rows free : List ℕ) (f : Follows q R (R .header kind.frontAt) kind.none (unmet R) rows)
       (g : Chained q kind.itemWords kind.later (R .item) (R .header kind.freeItemAt) free) where
     abbrev w : List Item
     w = map (shownItem R) rows
@@ -75,9 +74,9 @@ module _ (q : ℕ) (R : Regions) (small : q ≤ kind.largest) (cs : List ℕ) (K
         go false e =
             let xs = ownRows c w in
             let counted = eqb-false (R .client c kind.count) 0 e in
-            let l = f .own c (h, counted) in
+            let l = f .own c h .client counted in
             let some : 1 ≤ length xs = omega (arith, l .count, counted) in
-            let run : Run (windowWords R .ownEarlier) (windowWords R .ownLater) kind.none (R .client c kind.oldest) xs kind.none (R .client c kind.newest) = rw (next-oldest q R c kind.none (omega arith)) at (l .run) in
+            let run : Run (windowWords R .ownEarlier) (windowWords R .ownLater) kind.none (R .client c kind.oldest) xs kind.none (R .client c kind.newest) = l .run in
             let first = run-head _ _ _ _ xs _ _ run in
             let last = run-last _ _ _ _ xs _ _ run in
             record {
@@ -118,7 +117,7 @@ module _ (q : ℕ) (R : Regions) (small : q ≤ kind.largest) (cs : List ℕ) (K
             idle = λ r i. (zero r i kind.owner refl refl, zero r i kind.ticket refl refl, zero r i kind.earlier refl refl, zero r i kind.ownEarlier refl refl, zero r i kind.ownLater refl refl);
           };
           owners = owners;
-          counts = λ c i. omega (arith, f .own c (clients c i) .count);
+          counts = λ c i. let k = clients c i in omega (arith, f .own c (k .0) .client (k .1) .count);
         }
 
   -- the items are right: so the check passes
@@ -126,15 +125,19 @@ module _ (q : ℕ) (R : Regions) (small : q ≤ kind.largest) (cs : List ℕ) (K
     abbrev rows : List ℕ
     rows = map itemRow (I .w)
 
-    own-rest : (c : ℕ) → IsClient q R c → OwnRest q R c kind.none 0 (ownOf R c rows)
-    own-rest c v =
-        let xs = ownRows c (I .w) in
-        let o = I .queued .own c (v .0) in
-        let n = I .counts c (K .others c (v .0) (v .1)) in
-        let some : 1 ≤ length xs = omega (arith, n, v .1) in
-        let oldest = next-oldest q R c kind.none (omega arith) ∙ o .oldest ∙ head-any 0 kind.none xs some in
-        let newest = o .newest ∙ last-any 0 kind.none xs some in
-        rw (own-shown R c (I .w) (I .queued .owner)) (record { run = rw (oldest, newest) (o .linked .run); count = omega (arith, n) })
+    own-left : (c : ℕ) → c < q → OwnLeft R c kind.none (R .client c kind.oldest) 0 (ownOf R c rows)
+    own-left c h =
+        record {
+          nobody = λ e. refl;
+          client = λ m.
+              let xs = ownRows c (I .w) in
+              let o = I .queued .own c h in
+              let n = I .counts c (K .others c h m) in
+              let some : 1 ≤ length xs = omega (arith, n, m) in
+              let oldest = o .oldest ∙ head-any 0 kind.none xs some in
+              let newest = o .newest ∙ last-any 0 kind.none xs some in
+              rw (own-shown R c (I .w) (I .queued .owner)) (record { run = rw (oldest, newest) (o .linked .run); count = omega (arith, n) });
+        }
 
     owned : All (Owned q R) rows
     owned =
@@ -153,7 +156,7 @@ module _ (q : ℕ) (R : Regions) (small : q ≤ kind.largest) (cs : List ℕ) (K
         let long : length rows + length (I .free) ≡ q = sym (length-append rows (I .free)) ∙ Q .each .long in
         record {
           few = omega arith;
-          window = (rows, many, record { below = Q .window .below; run = Q .window .run; owners = owned; own = own-rest });
+          window = (rows, many, record { below = Q .window .below; run = Q .window .run; owners = owned; own = own-left });
           free = (I .free, omega arith, once-free rows (Q .each) (Q .chain) blank);
         }
 

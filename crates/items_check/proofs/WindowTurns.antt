@@ -8,13 +8,14 @@ use native.Mathlib.Omega.{arith}
 use lib.Dec.{eqb}
 use lib.ListN.{length, getD, set, replicate, length-replicate, getD-replicate}
 use lib.Seq.{getD-set-same, getD-set-other}
-use borrow.Author.Tests.{eq-eqb, lt-ltb, le-ltb, eqb-true, eqb-false}
+use borrow.Author.Count.{below-more}
+use borrow.Author.Tests.{eq-eqb, eqb-true, eqb-false}
 use Rattle.table.specs.Kind as kind
 use Rattle.table.specs.Regions.{Regions}
 use Rattle.free_check.specs.Listed.{Listed}
 use Rattle.free_check.proofs.Listed as listed
 use Rattle.free_check.proofs.Listed.{left-over}
-use Rattle.items_check.specs.Check.{column, ownOf, IsClient, nextOwn, Joins, OwnRest, Finished, Follows, Unmet}
+use Rattle.items_check.specs.Check.{column, ownOf, Notes, notes, unmet, Joins, OwnLeft, Finished, Follows, Expected, Unmet}
 
 -- a column with v noted for c
 
@@ -28,93 +29,141 @@ noted-is xs c v h = fun-ext λ d. go d (eqb c d) refl
     go d true e = ap (λ (k : ℕ). getD (set xs c v) k 0) (sym (eqb-true c d e)) ∙ getD-set-same xs c v 0 h
     go d false e = getD-set-other xs c d v 0 (λ z. eqb-false c d e (sym z))
 
-pub unmet : (q m : ℕ) → q ≤ m → Unmet q (replicate m kind.none) (replicate m 0)
-unmet q m h =
+pub nothing : (q m : ℕ) (R : Regions) (next : List ℕ) → q ≤ m → q ≤ length next → Expected q R next → Unmet q R (replicate m kind.none) next (replicate m 0)
+nothing q m R next h l e =
     record {
       met-room = rw length-replicate h;
+      next-room = l;
       seen-room = rw length-replicate h;
       nobody = λ c l. getD-replicate m c kind.none 0 (omega arith);
+      first = e;
       none-seen = λ c l. getD-replicate m c 0 0 (omega arith);
     }
 
+-- the rows below r of which P does not hold are counted: none are exactly where it holds of all
+
+pub record Wrong (P : ℕ → Type 0) (n r : ℕ) : Type 0 where
+  pub few : n ≤ r
+  pub tell : (n ≡ 0) ↔ ((c : ℕ) → c < r → P c)
+
+pub wrong-first : (P : ℕ → Type 0) → Wrong P 0 0
+wrong-first P = record { few = omega arith; tell = (λ e c l. absurd (omega arith), λ a. refl) }
+
+module _ {P : ℕ → Type 0} {n r : ℕ} (w : Wrong P n r) where
+  pub wrong-no : {v : ℕ} → v ≡ 0 → P r → Wrong P (n + v) (r + 1)
+  wrong-no z p = record { few = omega (arith, w .few); tell = (λ e. below-more P r (w .tell .0 (omega arith)) p, λ a. let e = w .tell .1 (λ c l. a c (omega arith)) in omega arith) }
+
+  pub wrong-one : {v : ℕ} → v ≡ 1 → (P r → ⊥) → Wrong P (n + v) (r + 1)
+  wrong-one z not = record { few = omega (arith, w .few); tell = (λ e. absurd (omega arith), λ a. absurd (not (a r (omega arith)))) }
+
+-- the oldest items are noted as far as row r
+
+pub expect-more : (r v : ℕ) (R : Regions) (next : List ℕ) → r < length next → v ≡ R .client r kind.oldest → Expected r R next → Expected (r + 1) R (set next r v)
+expect-more r v R next l e a =
+    below-more (λ c. column (set next r v) c ≡ R .client c kind.oldest) r
+    (λ c h. getD-set-other next r c v 0 (λ z. omega (arith, z)) ∙ a c h)
+    (getD-set-same next r v 0 l ∙ e)
+
+-- no row has been met more often than the walk has turned
+
+pub seen-more : (seen : List ℕ) (q k n i : ℕ) → i < length seen → 0 < k → ((c : ℕ) → c < q → column seen c + k ≤ n) → i < q → (c : ℕ) → c < q → column (set seen i (column seen i + 1)) c + (k - 1) ≤ n
+seen-more seen q k n i l h b m c w = rw (ap (λ (f : ℕ → ℕ). f c) (noted-is seen i (column seen i + 1) l)) (go (eqb i c) refl)
+  where
+    go : (t : Bool) → eqb i c ≡ t → cond t (column seen i + 1) (column seen c) + (k - 1) ≤ n
+    go true e = omega (arith, b i m)
+    go false e = omega (arith, b c w)
+
 module _ (q : ℕ) (R : Regions) where
-  pub next-later : (c p : ℕ) → p < q → nextOwn q R c p ≡ R .item p kind.ownLater
-  unfolding nextOwn
-  next-later c p h = rw (lt-ltb p q h)
-
-  pub next-oldest : (c p : ℕ) → q ≤ p → nextOwn q R c p ≡ R .client c kind.oldest
-  unfolding nextOwn
-  next-oldest c p h = rw (le-ltb p q h)
-
-  module _ (x prev : ℕ) (met seen : ℕ → ℕ) where
+  module _ (x prev : ℕ) (N : Notes) where
     pub record First (c : ℕ) : Type 0 where
       pub row : x < q
       pub client : c < q
-      pub joins : Joins q R x prev c (met c) (seen c)
+      pub joins : Joins R x prev (N .met c) (N .next c)
 
     abbrev owner : ℕ
     owner = R .item x kind.owner
 
-    -- of any client d: where x is its own, the list goes on from x; another's is as it was
-    own-on : First owner → (xs : List ℕ) (d : ℕ) → OwnRest q R d (met d) (seen d) (ownOf R d (x ∷ xs)) ↔ OwnRest q R d (noted owner x met d) (noted owner (seen owner + 1) seen d) (ownOf R d xs)
-    own-on a xs d = go (eqb owner d) refl
+    -- x noted for row c
+    abbrev on : ℕ → Notes
+    on c = record { met = noted c x (N .met); next = noted c (R .item x kind.ownLater) (N .next); seen = noted c (N .seen c + 1) (N .seen) }
+
+    abbrev Left : Notes → ℕ → List ℕ → Type 0
+    Left M d xs = OwnLeft R d (M .met d) (M .next d) (M .seen d) (ownOf R d xs)
+
+    -- of any row d: where x is its own, the list goes on from x; another's is as it was
+    own-on : First owner → (R .client owner kind.count ≡ 0 → ⊥) → (xs : List ℕ) (d : ℕ) → Left N d (x ∷ xs) ↔ Left (on owner) d xs
+    own-on a o xs d = go (eqb owner d) refl
       where
-        go : (b : Bool) → eqb owner d ≡ b → OwnRest q R d (met d) (seen d) (cond b (x ∷ ownOf R d xs) (ownOf R d xs)) ↔ OwnRest q R d (cond b x (met d)) (cond b (seen owner + 1) (seen d)) (ownOf R d xs)
+        go : (b : Bool) → eqb owner d ≡ b
+            → OwnLeft R d (N .met d) (N .next d) (N .seen d) (cond b (x ∷ ownOf R d xs) (ownOf R d xs))
+            ↔ OwnLeft R d (cond b x (N .met d)) (cond b (R .item x kind.ownLater) (N .next d)) (cond b (N .seen owner + 1) (N .seen d)) (ownOf R d xs)
         go true e =
             let z = eqb-true owner d e in
-            let n = ap seen z in
-            let j = subst (λ (k : ℕ). Joins q R x prev k (met k) (seen k)) z (a .joins) in (
-              λ l. record { run = rw (next-later d x (a .row)) (l .run .2); count = omega (arith, l .count) },
-              λ l. record { run = (j .next, j .own, rw (next-later d x (a .row)) at (l .run)); count = omega (arith, l .count) },
+            let n = ap (N .seen) z in
+            let some = subst (λ (k : ℕ). R .client k kind.count ≡ 0 → ⊥) z o in
+            let j = subst (λ (k : ℕ). Joins R x prev (N .met k) (N .next k)) z (a .joins) in (
+              λ l. record { nobody = λ e. absurd (some e); client = λ k. let r = l .client k in record { run = r .run .2; count = omega (arith, r .count) } },
+              λ l. record { nobody = λ e. absurd (some e); client = λ k. let r = l .client k in record { run = (j .next, j .own, r .run); count = omega (arith, r .count) } },
             )
         go false e = Iff·rfl
 
-    own-first : (xs : List ℕ) → R .item x kind.earlier ≡ prev → OwnRest q R owner (met owner) (seen owner) (ownOf R owner (x ∷ xs)) → Joins q R x prev owner (met owner) (seen owner)
-    own-first xs e l =
-        let l′ : OwnRest q R owner (met owner) (seen owner) (x ∷ ownOf R owner xs) = rw (eq-eqb owner owner refl) at l in
-        record { earlier = e; own = l′ .run .1; room = omega (arith, l′ .count); next = l′ .run .0 }
+    own-first : (xs : List ℕ) → R .item x kind.earlier ≡ prev → (R .client owner kind.count ≡ 0 → ⊥) → Left N owner (x ∷ xs) → Joins R x prev (N .met owner) (N .next owner)
+    own-first xs e o l =
+        let l′ : OwnLeft R owner (N .met owner) (N .next owner) (N .seen owner) (x ∷ ownOf R owner xs) = rw (eq-eqb owner owner refl) at l in
+        let r = l′ .client o .run in
+        record { earlier = e; own = r .1; next = r .0 }
+
+    -- a row of which x was met is a client's
+    own-met : (xs : List ℕ) → Left (on owner) owner xs → R .client owner kind.count ≡ 0 → ⊥
+    own-met xs l z =
+        let n : N .seen owner + 1 ≡ 0 = rw (eq-eqb owner owner refl) at (l .nobody z) in
+        omega arith
 
     -- one row more: it joins, and the walk goes on with it noted
-    step : (rs : List ℕ) → Follows q R x prev met seen (x ∷ rs) ↔ (First owner × Follows q R (R .item x kind.later) x (noted owner x met) (noted owner (seen owner + 1) seen) rs)
+    step : (rs : List ℕ) → Follows q R x prev N (x ∷ rs) ↔ (First owner × Follows q R (R .item x kind.later) x (on owner) rs)
     step rs = (
       λ f.
-          let a : First owner = record { row = f .below .0; client = f .owners .0 .0; joins = own-first rs (f .run .1) (f .own owner (f .owners .0)) } in
-          (a, record { below = f .below .1; run = f .run .2; owners = f .owners .1; own = λ d w. own-on a rs d .0 (f .own d w) }),
+          let o = f .owners .0 in
+          let a : First owner = record { row = f .below .0; client = o .0; joins = own-first rs (f .run .1) (o .1) (f .own owner (o .0)) } in
+          (a, record { below = f .below .1; run = f .run .2; owners = f .owners .1; own = λ d w. own-on a (o .1) rs d .0 (f .own d w) }),
       λ p.
           let a = p .0 in
           let f = p .1 in
-          let o : IsClient q R owner = (a .client, λ z. omega (arith, z, a .joins .room)) in
-          record { below = (a .row, f .below); run = (refl, a .joins .earlier, f .run); owners = (o, f .owners); own = λ d w. own-on a rs d .1 (f .own d w) },
+          let o = own-met rs (f .own owner (a .client)) in
+          record { below = (a .row, f .below); run = (refl, a .joins .earlier, f .run); owners = ((a .client, o), f .owners); own = λ d w. own-on a o rs d .1 (f .own d w) },
     )
 
-    module _ (k : ℕ) {W : Type 0} (so : Listed k (Follows q R x prev met seen) ↔ W) where
-      pub turn : 0 < k → (c : ℕ) → c ≡ owner → (First c × Listed (k - 1) (Follows q R (R .item x kind.later) x (noted c x met) (noted c (seen c + 1) seen))) ↔ W
-      turn h c is = rw is (listed.turn k (Follows q R x prev met seen) so x (First owner) (Follows q R (R .item x kind.later) x (noted owner x met) (noted owner (seen owner + 1) seen)) (λ r rs f. f .run .0) step h)
+    module _ (k : ℕ) {W : Type 0} (so : Listed k (Follows q R x prev N) ↔ W) where
+      pub turn : 0 < k → (c : ℕ) → c ≡ owner → (First c × Listed (k - 1) (Follows q R (R .item x kind.later) x (on c))) ↔ W
+      turn h c is = rw is (listed.turn k (Follows q R x prev N) so x (First owner) (Follows q R (R .item x kind.later) x (on owner)) (λ r rs f. f .run .0) step h)
 
-      pub stop : k ≤ 0 → Finished q R x prev met seen ↔ W
+      pub stop : k ≤ 0 → Finished q R x prev N ↔ W
       stop h =
-          let s = listed.stop k (Follows q R x prev met seen) so h in (
+          let s = listed.stop k (Follows q R x prev N) so h in (
             λ e. s .0 (record { below = tt; run = (e .none, sym (e .back)); owners = tt; own = e .own }),
             λ w. let f = s .1 w in record { none = f .run .0; back = sym (f .run .1); own = f .own },
           )
 
-    -- other columns that say the same of every client
-    own-so : (met′ seen′ : ℕ → ℕ) (k : ℕ) → ((c : ℕ) → IsClient q R c → (xs : List ℕ) → OwnRest q R c (met c) (seen c) xs → OwnRest q R c (met′ c) (seen′ c) xs) → Listed k (Follows q R x prev met seen) → Listed k (Follows q R x prev met′ seen′)
-    own-so met′ seen′ k h l =
+    -- other notes that say the same of every row
+    own-so : (M : Notes) (k : ℕ)
+        → ((c : ℕ) → c < q → (xs : List ℕ) → OwnLeft R c (N .met c) (N .next c) (N .seen c) xs → OwnLeft R c (M .met c) (M .next c) (M .seen c) xs)
+        → Listed k (Follows q R x prev N) → Listed k (Follows q R x prev M)
+    own-so M k h l =
         let f = l .2 in
         (l .0, l .1, record { below = f .below; run = f .run; owners = f .owners; own = λ c w. h c w (ownOf R c (l .0)) (f .own c w) })
 
   -- the start and a turn as the code has them
 
-  module _ (x prev : ℕ) (met seen : List ℕ) (k : ℕ) where
-    pub start : Unmet q met seen → Listed k (Follows q R x prev (column met) (column seen)) ↔ Listed k (Follows q R x prev (λ c. kind.none) (λ c. 0))
+  module _ (x prev : ℕ) (met next seen : List ℕ) (k : ℕ) where
+    pub start : Unmet q R met next seen → Listed k (Follows q R x prev (notes met next seen)) ↔ Listed k (Follows q R x prev (unmet R))
     start u = (
-      own-so x prev (column met) (column seen) (λ c. kind.none) (λ c. 0) k (λ c w xs o. rw (u .nobody c (w .0), u .none-seen c (w .0)) at o),
-      own-so x prev (λ c. kind.none) (λ c. 0) (column met) (column seen) k (λ c w xs o. rw (u .nobody c (w .0), u .none-seen c (w .0)) o),
+      own-so x prev (notes met next seen) (unmet R) k (λ c w xs o. rw (u .nobody c w, u .first c w, u .none-seen c w) at o),
+      own-so x prev (unmet R) (notes met next seen) k (λ c w xs o. rw (u .nobody c w, u .first c w, u .none-seen c w) o),
     )
 
-    pub turn-noted : {W : Type 0} → Listed k (Follows q R x prev (column met) (column seen)) ↔ W → 0 < k
-        → (c : ℕ) → c ≡ R .item x kind.owner → First x prev (column met) (column seen) c → c < length met → c < length seen → (to : ℕ) → to ≡ R .item x kind.later
-        → Listed (k - 1) (Follows q R to x (column (set met c x)) (column (set seen c (column seen c + 1)))) ↔ W
-    turn-noted so h c is a l m to et =
-        rw (noted-is met c x l, noted-is seen c (getD seen c 0 + 1) m, et) (left-over (turn x prev (column met) (column seen) k so h c is) a)
+    pub turn-noted : {W : Type 0} → Listed k (Follows q R x prev (notes met next seen)) ↔ W → 0 < k
+        → (c : ℕ) → c ≡ R .item x kind.owner → First x prev (notes met next seen) c → c < length met → c < length next → c < length seen
+        → (h : ℕ) → h ≡ R .item x kind.ownLater → (to : ℕ) → to ≡ R .item x kind.later
+        → Listed (k - 1) (Follows q R to x (notes (set met c x) (set next c h) (set seen c (column seen c + 1)))) ↔ W
+    turn-noted so l c is a lm ln ls h eh to et =
+        rw (noted-is met c x lm, noted-is next c h ln, noted-is seen c (getD seen c 0 + 1) ls, eh, et) (left-over (turn x prev (notes met next seen) k so l c is) a)

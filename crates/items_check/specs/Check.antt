@@ -1,9 +1,7 @@
--- What each part of the check tells. The walk of the window follows every client's own list beside it: what it has met of one is its last item and how many.
+-- What each part of the check tells. The walk of the window follows every client's own list beside it, and notes what it has met of one.
 use mathlib.Core.List.{List, [], map}
-use mathlib.Core.Bool.{cond}
 use mathlib.Core.Path.{_≡_}
 use Prim.Native.Nat.{ℕ, _+_, _-_, _≤_, _<_}
-use lib.Dec.{ltb}
 use lib.ListN.{length, getD}
 use Rattle.table.specs.Kind as kind
 use Rattle.table.specs.Regions.{Regions}
@@ -32,48 +30,67 @@ IsClient q R c = (c < q) × (R .client c kind.count ≡ 0 → ⊥)
 abbrev pub Owned : ℕ → Regions → ℕ → Type 0
 Owned q R r = IsClient q R (R .item r kind.owner)
 
--- the item that client c has after p, or its oldest where p is no row
-unfoldable pub nextOwn : ℕ → Regions → ℕ → ℕ → ℕ
-nextOwn q R c p = cond (ltb p q) (R .item p kind.ownLater) (R .client c kind.oldest)
+-- what the walk has noted of each row: of its own list the last item met, the row after it, and how many were met
+pub record Notes : Type 0 where
+  pub met : ℕ → ℕ
+  pub next : ℕ → ℕ
+  pub seen : ℕ → ℕ
 
--- row x follows prev in the window and p, the n-th, in the own list of its client c
-pub record Joins (q : ℕ) (R : Regions) (x prev c p n : ℕ) : Type 0 where
+abbrev pub notes : List ℕ → List ℕ → List ℕ → Notes
+notes met next seen = record { met = column met; next = column next; seen = column seen }
+
+-- before anything is met
+abbrev pub unmet : Regions → Notes
+unmet R = record { met = λ c. kind.none; next = λ c. R .client c kind.oldest; seen = λ c. 0 }
+
+-- row x follows prev in the window and p in its client's own list, which goes on with h after p
+pub record Joins (R : Regions) (x prev p h : ℕ) : Type 0 where
   pub earlier : R .item x kind.earlier ≡ prev
   pub own : R .item x kind.ownEarlier ≡ p
-  pub room : n < R .client c kind.count
-  pub next : nextOwn q R c p ≡ x
+  pub next : h ≡ x
 
--- after p, the n-th, the own list of client c has the rows xs, up to its newest and its count
-pub record OwnRest (q : ℕ) (R : Regions) (c p n : ℕ) (xs : List ℕ) : Type 0 where
-  pub run : Run (windowWords R .ownEarlier) (windowWords R .ownLater) p (nextOwn q R c p) xs kind.none (R .client c kind.newest)
+-- after p, the n-th, the own list of client c has the rows xs from pointer h on, up to its newest and its count
+pub record OwnRest (R : Regions) (c p h n : ℕ) (xs : List ℕ) : Type 0 where
+  pub run : Run (windowWords R .ownEarlier) (windowWords R .ownLater) p h xs kind.none (R .client c kind.newest)
   pub count : n + length xs ≡ R .client c kind.count
 
--- with p, the n-th, the own list of client c ends, or row c is no client's
-abbrev pub OwnEnds : ℕ → Regions → ℕ → ℕ → ℕ → Type 0
-OwnEnds q R c p n = IsClient q R c → OwnRest q R c p n []
+-- the same where row c is a client's; of another row nothing was met
+pub record OwnLeft (R : Regions) (c p h n : ℕ) (xs : List ℕ) : Type 0 where
+  pub nobody : R .client c kind.count ≡ 0 → n ≡ 0
+  pub client : (R .client c kind.count ≡ 0 → ⊥) → OwnRest R c p h n xs
 
--- with no row left at x, the window ends with prev, and each own list with what was met of it
-pub record Finished (q : ℕ) (R : Regions) (x prev : ℕ) (met seen : ℕ → ℕ) : Type 0 where
+-- and no row is left of it
+abbrev pub OwnEnds : Regions → ℕ → ℕ → ℕ → ℕ → Type 0
+OwnEnds R c p h n = OwnLeft R c p h n []
+
+-- with no row left at x, the window ends with prev, and each own list with what was noted of it
+pub record Finished (q : ℕ) (R : Regions) (x prev : ℕ) (N : Notes) : Type 0 where
   pub none : x ≡ kind.none
   pub back : prev ≡ R .header kind.backAt
-  pub own : (c : ℕ) → OwnEnds q R c (met c) (seen c)
+  pub own : (c : ℕ) → c < q → OwnEnds R c (N .met c) (N .next c) (N .seen c)
 
--- after prev the window has these rows from pointer x on, up to the back; and the own list of each client c, after met c, has those of its rows
-pub record Follows (q : ℕ) (R : Regions) (x prev : ℕ) (met seen : ℕ → ℕ) (rows : List ℕ) : Type 0 where
+-- after prev the window has these rows from pointer x on, up to the back; and each own list, after what was noted of it, has those of its rows
+pub record Follows (q : ℕ) (R : Regions) (x prev : ℕ) (N : Notes) (rows : List ℕ) : Type 0 where
   pub below : Below q rows
   pub run : Run (windowWords R .earlier) (windowWords R .later) prev x rows kind.none (R .header kind.backAt)
   pub owners : All (Owned q R) rows
-  pub own : (c : ℕ) → IsClient q R c → OwnRest q R c (met c) (seen c) (ownOf R c rows)
+  pub own : (c : ℕ) → c < q → OwnLeft R c (N .met c) (N .next c) (N .seen c) (ownOf R c rows)
 
 -- all of it, as many rows as the header says, before anything is met
 abbrev pub Window : ℕ → Regions → Type 0
-Window q R = Listed (R .header kind.requestsAt) (Follows q R (R .header kind.frontAt) kind.none (λ c. kind.none) (λ c. 0))
+Window q R = Listed (R .header kind.requestsAt) (Follows q R (R .header kind.frontAt) kind.none (unmet R))
 
--- room to note every client in, where nothing is noted yet
-pub record Unmet (q : ℕ) (met seen : List ℕ) : Type 0 where
+-- every row's oldest item is noted as the one to come
+abbrev pub Expected : ℕ → Regions → List ℕ → Type 0
+Expected q R next = (c : ℕ) → c < q → column next c ≡ R .client c kind.oldest
+
+-- room to note every row in, where nothing is met yet
+pub record Unmet (q : ℕ) (R : Regions) (met next seen : List ℕ) : Type 0 where
   pub met-room : q ≤ length met
+  pub next-room : q ≤ length next
   pub seen-room : q ≤ length seen
   pub nobody : (c : ℕ) → c < q → column met c ≡ kind.none
+  pub first : Expected q R next
   pub none-seen : (c : ℕ) → c < q → column seen c ≡ 0
 
 -- no more items wait than there are rows, the window is right, and the other rows are free

@@ -1,35 +1,22 @@
 // The items' part of the soundness check, in one pass without marks: links that agree both ways from a none end repeat no row,
 // a chain that ends repeats none, and a free row has both own links 0, as no waiting one has.
-ghost use mathlib.Core.Path.{_≡_};
 ghost use Prim.Native.Nat.{_<_, _≤_};
 ghost use lib.ListN.{length};
 ghost use Rattle.table.specs.Regions.{Sized, regions};
 ghost use Rattle.items_check.specs.Items.{Checked};
 ghost use Rattle.rules.specs.Tells.{Tells};
-ghost use Rattle.items_check.specs.Check.{column, nextOwn, Joins, OwnEnds, Finished, Window, Unmet};
+ghost use Rattle.items_check.specs.Check.{notes, Joins, OwnEnds, Finished, Window, Expected, Unmet};
 use free_check::Rows;
 use table::LinkedTable;
 
 // Up to this size a table is checked in little room: clearing the most takes longer than all of its check.
 const SMALL: usize = 64;
 
-// The item that client c has after p, or its oldest where p is no row.
-fn next_own(t: &[u32], q: usize, c: u32, p: u32) -> u32
+// Row x follows prev in the window and p in its client's own list, which goes on with h after p.
+fn joins(t: &[u32], q: usize, x: u32, prev: u32, p: u32, h: u32) -> bool
     requires { ⌜ Sized q (now t) ⌝ }
-    requires { ⌜ c < q ⌝ }
-    ensures { λ x. ⌜ x ≡ nextOwn q (regions q (now (t .entry))) c p ⌝ }
-{
-    if (p as usize) < q {
-        return table::item(t, q, p, LinkedTable::OWN_LATER);
-    }
-    table::client(t, q, c, LinkedTable::OLDEST)
-}
-
-// Row x follows prev in the window and p, the n-th, in the own list of its client c.
-fn joins(t: &[u32], q: usize, x: u32, prev: u32, c: u32, p: u32, n: u32) -> bool
-    requires { ⌜ Sized q (now t) ⌝ }
-    requires { ⌜ (x < q) × (c < q) ⌝ }
-    ensures { λ ok. ⌜ Tells ok (Joins q (regions q (now (t .entry))) x prev c p n) ⌝ }
+    requires { ⌜ x < q ⌝ }
+    ensures { λ ok. ⌜ Tells ok (Joins (regions q (now (t .entry))) x prev p h) ⌝ }
 {
     if table::item(t, q, x, LinkedTable::EARLIER) != prev {
         return false;
@@ -37,36 +24,43 @@ fn joins(t: &[u32], q: usize, x: u32, prev: u32, c: u32, p: u32, n: u32) -> bool
     if table::item(t, q, x, LinkedTable::OWN_EARLIER) != p {
         return false;
     }
-    if n >= table::client(t, q, c, LinkedTable::COUNT) {
-        return false;
-    }
-    next_own(t, q, c, p) == x
+    h == x
 }
 
-// The own list of client c ends with p, the n-th; a row without a count has none.
-fn own_ends(t: &[u32], q: usize, c: u32, p: u32, n: u32) -> bool
+// The own list of client c ends with p, the n-th, after which it goes on with h; nothing was met of a row without a count.
+fn own_ends(t: &[u32], q: usize, c: u32, p: u32, h: u32, n: u32) -> bool
     requires { ⌜ Sized q (now t) ⌝ }
     requires { ⌜ c < q ⌝ }
-    ensures { λ ok. ⌜ Tells ok (OwnEnds q (regions q (now (t .entry))) c p n) ⌝ }
+    ensures { λ ok. ⌜ Tells ok (OwnEnds (regions q (now (t .entry))) c p h n) ⌝ }
 {
     let count = table::client(t, q, c, LinkedTable::COUNT);
-    if count == 0 {
-        return true;
-    }
+    let newest = table::client(t, q, c, LinkedTable::NEWEST);
     if n != count {
         return false;
     }
-    if p != table::client(t, q, c, LinkedTable::NEWEST) {
+    if count == 0 {
+        return true;
+    }
+    if p != newest {
         return false;
     }
-    next_own(t, q, c, p) == LinkedTable::NONE
+    h == LinkedTable::NONE
 }
 
-// With no row left at `at`, the window ends with prev and every client's own list with what was met of it.
-fn finished(t: &[u32], q: usize, at: u32, prev: u32, met: &[u32], seen: &[u32]) -> bool
+// With no row left at `at`, the window ends with prev and every client's own list with what was noted of it.
+// (No early exit from the loop: which rows are clients' cannot be foretold, so they are told without a branch.)
+fn finished(
+    t: &[u32],
+    q: usize,
+    at: u32,
+    prev: u32,
+    met: &[u32],
+    next: &[u32],
+    seen: &[u32],
+) -> bool
     requires { ⌜ Sized q (now t) ⌝ }
-    requires { ⌜ (q ≤ length (now met)) × (q ≤ length (now seen)) ⌝ }
-    ensures { λ ok. ⌜ Tells ok (Finished q (regions q (now (t .entry))) at prev (column (now (met .entry))) (column (now (seen .entry)))) ⌝ }
+    requires { ⌜ (q ≤ length (now met)) × (q ≤ length (now next)) × (q ≤ length (now seen)) ⌝ }
+    ensures { λ ok. ⌜ Tells ok (Finished q (regions q (now (t .entry))) at prev (notes (now (met .entry)) (now (next .entry)) (now (seen .entry)))) ⌝ }
 {
     if at != LinkedTable::NONE {
         return false;
@@ -74,20 +68,36 @@ fn finished(t: &[u32], q: usize, at: u32, prev: u32, met: &[u32], seen: &[u32]) 
     if prev != table::header(t, q, LinkedTable::BACK_AT) {
         return false;
     }
+    let mut wrong: u32 = 0;
     let mut r: usize = 0;
     while r < q {
-        if !own_ends(t, q, r as u32, met[r], seen[r]) {
-            return false;
-        }
+        wrong += if own_ends(t, q, r as u32, met[r], next[r], seen[r]) {
+            0
+        } else {
+            1
+        };
         r += 1;
     }
-    true
+    wrong == 0
 }
 
-// The window, and beside it each client's own list, whose last item met and number of items seen are noted.
-fn follow(t: &[u32], q: usize, met: &mut [u32], seen: &mut [u32]) -> bool
+// Before anything is met every own list goes on with its oldest item.
+fn expect_oldest(t: &[u32], q: usize, next: &mut [u32])
     requires { ⌜ Sized q (now t) ⌝ }
-    requires { ⌜ Unmet q (now met) (now seen) ⌝ }
+    requires { ⌜ q ≤ length (now next) ⌝ }
+    ensures { λ _. ⌜ Expected q (regions q (now (t .entry))) (now (next .exit)) ⌝ }
+{
+    let mut r: usize = 0;
+    while r < q {
+        next[r] = table::client(t, q, r as u32, LinkedTable::OLDEST);
+        r += 1;
+    }
+}
+
+// The window, and beside it each client's own list, of which the last item met, the row after it and the number seen are noted.
+fn follow(t: &[u32], q: usize, met: &mut [u32], next: &mut [u32], seen: &mut [u32]) -> bool
+    requires { ⌜ Sized q (now t) ⌝ }
+    requires { ⌜ Unmet q (regions q (now t)) (now met) (now next) (now seen) ⌝ }
     ensures { λ ok. ⌜ Tells ok (Window q (regions q (now (t .entry)))) ⌝ }
 {
     // Rows are compared in the 32 bits that they have in the table.
@@ -104,17 +114,17 @@ fn follow(t: &[u32], q: usize, met: &mut [u32], seen: &mut [u32]) -> bool
             return false;
         }
         let i = c as usize;
-        let n = seen[i];
-        if !joins(t, q, at, prev, c, met[i], n) {
+        if !joins(t, q, at, prev, met[i], next[i]) {
             return false;
         }
         met[i] = at;
-        seen[i] = n + 1;
+        next[i] = table::item(t, q, at, LinkedTable::OWN_LATER);
+        seen[i] += 1;
         prev = at;
         at = table::item(t, q, at, LinkedTable::LATER);
         left -= 1;
     }
-    finished(t, q, at, prev, met, seen)
+    finished(t, q, at, prev, met, next, seen)
 }
 
 // The same, noted here.
@@ -124,12 +134,16 @@ fn window(t: &[u32], q: usize) -> bool
 {
     if q <= SMALL {
         let mut met = [LinkedTable::NONE; SMALL];
+        let mut next = [0u32; SMALL];
         let mut seen = [0u32; SMALL];
-        return follow(t, q, &mut met, &mut seen);
+        expect_oldest(t, q, &mut next);
+        return follow(t, q, &mut met, &mut next, &mut seen);
     }
     let mut met = [LinkedTable::NONE; LinkedTable::LARGEST];
+    let mut next = [0u32; LinkedTable::LARGEST];
     let mut seen = [0u32; LinkedTable::LARGEST];
-    follow(t, q, &mut met, &mut seen)
+    expect_oldest(t, q, &mut next);
+    follow(t, q, &mut met, &mut next, &mut seen)
 }
 
 // Whether the items are right, where the clients are.

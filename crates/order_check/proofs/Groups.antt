@@ -11,7 +11,7 @@ use borrow.Author.Tests.{eq-eqb, ne-eqb, ltb-true, ltb-false}
 use Rattle.table.specs.Owners.{OrderWords}
 use Rattle.rules.specs.Rows.{Rising}
 use Rattle.rules.specs.Draw.{group}
-use Rattle.order_check.specs.Check.{Ended, Joins, Ends}
+use Rattle.order_check.specs.Check.{Last, Bare, Joins, Ends}
 
 -- of counts that never fall, from m up, nobody has one below m
 group-under : (n : ℕ → ℕ) (m k : ℕ) (xs : List ℕ) → Rising m (map n xs) → k < m → group n k xs ≡ []
@@ -36,31 +36,31 @@ module _ (q : ℕ) (O : OrderWords) (prev floor x : ℕ) (xs : List ℕ) (up : R
   under k h = elsewhere k (λ e. omega (arith, e)) ∙ group-under (O .count) (O .count x) k xs up h
 
   -- a row that joins goes in front of the rows after it
-  pub ends-back : Joins q O x (O .count x) prev floor → Ends q O x (O .count x) xs → Ends q O prev floor (x ∷ xs)
-  ends-back j e =
-      let ended : floor < O .count x → Ended O floor prev (O .count x - 1) = λ l. j .begins (O .count x - 1) (omega arith) (omega arith) .1 in
+  pub ends-back : Joins q O x (O .count x) prev floor → Bare O floor (O .count x - 1) → Ends q O x (O .count x) xs → Ends q O prev floor (x ∷ xs)
+  ends-back j b e =
+      let last : floor < O .count x → Last O floor prev = λ l. j .begins (O .count x - 1) (omega arith) (omega arith) .1 in
       record {
         begun = λ k h.
             ⊎-elim (λ s. rw (here (suc k) (sym s ∙ sym h)) (e .begun k (h ∙ s)))
-            (λ l. rw (under (suc k) (omega arith)) (ended l .last k h))
+            (λ l. rw (under (suc k) (omega arith)) (last l k h))
             (eq-or-lt-of-le (j .rises));
         fresh = λ k h f.
             ⊎-elim (λ l. rw (elsewhere (suc k) (λ s. omega arith)) (e .fresh k h (omega arith)))
             (⊎-elim (λ s. rw (here (suc k) s) (j .begins k (sym s) f .0, e .begun k (sym s)))
-            (λ l. rw (under (suc k) l) (ended (omega arith) .bare k (omega arith) f)))
+            (λ l. rw (under (suc k) l) (b k (omega arith) f)))
             (three-ways (O .count x) (suc k));
       }
 
   -- and so it stands in a right order
   module _ (rises : floor ≤ O .count x) (most : O .count x ≤ q) (e : Ends q O prev floor (x ∷ xs)) where
-    pub begins : (k : ℕ) → suc k ≡ O .count x → floor ≤ k → (O .lightEnd k ≡ x) × Ended O floor prev k
+    pub begins : (k : ℕ) → suc k ≡ O .count x → floor ≤ k → (O .lightEnd k ≡ x) × Last O floor prev
     begins k h l = (
       rw (here (suc k) (sym h)) at (e .fresh k (omega arith) l .0),
-      record {
-        last = λ i s. rw (under (suc i) (omega arith)) at (e .begun i s);
-        bare = λ i m f. rw (under (suc i) (omega arith)) at (e .fresh i (omega arith) f);
-      },
+      λ i s. rw (under (suc i) (omega arith)) at (e .begun i s),
     )
+
+    pub bare : Bare O floor (O .count x - 1)
+    bare i m f = rw (under (suc i) (omega arith)) at (e .fresh i (omega arith) f)
 
     pub ends-on : Ends q O x (O .count x) xs
     ends-on =

@@ -1,7 +1,9 @@
 -- What each part of the check tells.
 use mathlib.Core.List.{List, map}
+use mathlib.Core.Bool.{cond}
 use mathlib.Core.Path.{_≡_}
-use Prim.Native.Nat.{ℕ, suc, _-_, max, _≤_, _<_}
+use Prim.Native.Nat.{ℕ, zero, suc, _+_, _-_, max, _≤_, _<_}
+use lib.Dec.{eqb}
 use Rattle.table.specs.Kind as kind
 use Rattle.table.specs.Regions.{Regions}
 use Rattle.table.specs.Owners.{OrderWords, orderWords}
@@ -11,10 +13,22 @@ use Rattle.rules.specs.Draw.{group}
 use Rattle.free_check.specs.Listed.{Listed}
 use Rattle.free_check.specs.Free.{Free}
 
--- the group of this count, where it is not 0, ends with the row `prev`, and the count rows after its own and below `to` hold none twice
-pub record Ended (O : OrderWords) (count prev to : ℕ) : Type 0 where
-  pub last : (k : ℕ) → suc k ≡ count → O .heavyEnd k ≡ prev
-  pub bare : (k : ℕ) → k < to → count ≤ k → (O .lightEnd k ≡ kind.none) × (O .heavyEnd k ≡ kind.none)
+-- the group of this count, where it is not 0, ends with the row `prev`
+abbrev pub Last : OrderWords → ℕ → ℕ → Type 0
+Last O count prev = (k : ℕ) → suc k ≡ count → O .heavyEnd k ≡ prev
+
+-- the count rows from one to another hold none twice
+abbrev pub Bare : OrderWords → ℕ → ℕ → Type 0
+Bare O from to = (k : ℕ) → k < to → from ≤ k → (O .lightEnd k ≡ kind.none) × (O .heavyEnd k ≡ kind.none)
+
+-- 1 for a row, 0 for none
+abbrev pub oneIfRow : ℕ → ℕ
+oneIfRow x = cond (eqb x kind.none) 0 1
+
+-- how many words of the count rows below k hold a row
+abbrev pub rowsHeld : OrderWords → ℕ → ℕ
+rowsHeld O zero = 0
+rowsHeld O (suc k) = rowsHeld O k + (oneIfRow (O .lightEnd k) + oneIfRow (O .heavyEnd k))
 
 -- the row `at`, of this count, may follow the row `prev` of count `floor`, which is 0 before the first row:
 -- where the counts differ, the group of `floor` has ended and the row is the lightest of its own
@@ -23,7 +37,7 @@ pub record Joins (q : ℕ) (O : OrderWords) (at count prev floor : ℕ) : Type 0
   pub least : 1 ≤ count
   pub rises : floor ≤ count
   pub most : count ≤ q
-  pub begins : (k : ℕ) → suc k ≡ count → floor ≤ k → (O .lightEnd k ≡ at) × Ended O floor prev k
+  pub begins : (k : ℕ) → suc k ≡ count → floor ≤ k → (O .lightEnd k ≡ at) × Last O floor prev
 
 -- the count rows hold the ends of the groups of these rows, which follow `prev`: of the group of count `floor`, which began before them, the heavy end
 pub record Ends (q : ℕ) (O : OrderWords) (prev floor : ℕ) (rows : List ℕ) : Type 0 where

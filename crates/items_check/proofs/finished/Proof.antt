@@ -1,19 +1,22 @@
--- Before turn r the own lists of the rows below r have ended.
+-- Before turn r the rows below r whose own lists do not end are counted (`Wrong`).
 use borrow.Author.Needs.{needs}
-use Prim.Native.Nat.{ℕ, _<_, _-_}
+use mathlib.Core.Logic.{⊎-elim}
+use mathlib.Core.Path.{sym, _∙_}
+use Prim.Native.Nat.{_-_, _≤_}
 use native.Mathlib.Omega.{arith}
-use borrow.Author.Count.{below-more}
 use Rattle.table.specs.Regions.{regions}
 use Rattle.items_check.specs.Check.{column, OwnEnds}
-use Rattle.rules.proofs.Tells.{tells-no, tells-yes, refuted, told}
+use Rattle.rules.proofs.Decide.{no-true}
+use Rattle.rules.proofs.Tells.{tells-no, tells-equal}
+use Rattle.items_check.proofs.WindowTurns.{Wrong, wrong-first, wrong-no, wrong-one}
 use Rattle.items_check.proofs.finished.Statement.{statement}
 use Rattle.items_check.proofs.finished.Tie as tie
 
 abbrev Inv-loop : tie.InvT-loop
-Inv-loop t q at prev met seen r₀ r = (c : ℕ) → c < r → OwnEnds q (regions q t) c (column met c) (column seen c)
+Inv-loop t q at prev met next seen wrong₀ r₀ wrong r = (r ≤ q) × Wrong (λ c. OwnEnds (regions q t) c (column met c) (column next c) (column seen c)) wrong r
 
 abbrev μ-loop : tie.MeasureT-loop
-μ-loop t q at prev met seen r₀ r = q - r
+μ-loop t q at prev met next seen wrong₀ r₀ wrong r = q - r
 
 returns : tie.Need-returns Inv-loop μ-loop
 returns c = tells-no (λ f. omega (arith, f .none))
@@ -25,7 +28,7 @@ returns-2 : tie.Need-returns-2 Inv-loop μ-loop
 returns-2 c = tells-no (λ f. omega (arith, f .back))
 
 loop-holds : tie.Need-loop-holds Inv-loop μ-loop
-loop-holds c = λ i h. absurd (omega arith)
+loop-holds c = (search needs, wrong-first _)
 
 cast-own-ends : tie.Need-cast-own-ends Inv-loop μ-loop
 cast-own-ends c = search needs
@@ -42,11 +45,17 @@ mul-own-ends-2 c = search needs
 shared-slice-read-own-ends-2 : tie.Need-shared-slice-read-own-ends-2 Inv-loop μ-loop
 shared-slice-read-own-ends-2 c = search needs
 
+mul-own-ends-3 : tie.Need-mul-own-ends-3 Inv-loop μ-loop
+mul-own-ends-3 c = search needs
+
+shared-slice-read-own-ends-3 : tie.Need-shared-slice-read-own-ends-3 Inv-loop μ-loop
+shared-slice-read-own-ends-3 c = search needs
+
 own-ends-requires : tie.Need-own-ends-requires Inv-loop μ-loop
 own-ends-requires c κs = search needs
 
-returns-3 : tie.Need-returns-3 Inv-loop μ-loop
-returns-3 c = tells-no (λ f. refuted (c .before .own-ends .ensures) (c .if3 .taken) (f .own _))
+add-wrong : tie.Need-add-wrong Inv-loop μ-loop
+add-wrong c = ⊎-elim (λ w. omega (arith, w .1)) (λ w. omega (arith, w .1)) (c .before .if3 .came)
 
 add-r : tie.Need-add-r Inv-loop μ-loop
 add-r c = search needs
@@ -55,10 +64,15 @@ loop-less : tie.Need-loop-less Inv-loop μ-loop
 loop-less c = search needs
 
 loop-again : tie.Need-loop-again Inv-loop μ-loop
-loop-again c = below-more _ _ (c .before .before .before .before .before .loop .inv) (told (c .before .own-ends .ensures) (c .if3 .left))
+loop-again c =
+    let e = c .before .before .own-ends .ensures in
+    let m = c .before .before .before .before .before .before .before .loop .inv .1 in
+    (search needs, ⊎-elim (λ w. wrong-no m (w .1) (e .right (w .0 .taken))) (λ w. wrong-one m (w .1) (λ p. no-true (sym (w .0 .left) ∙ e .passes p))) (c .before .if3 .came))
 
-returns-4 : tie.Need-returns-4 Inv-loop μ-loop
-returns-4 c = tells-yes (record { none = search needs; back = search needs; own = λ i w. c .before .loop .inv i (omega (arith, w .0)) w })
+returns-3 : tie.Need-returns-3 Inv-loop μ-loop
+returns-3 c =
+    let w = c .before .loop .inv .1 .tell in
+    tells-equal _ _ (λ z. record { none = search needs; back = search needs; own = λ i l. w .0 z i (omega arith) }, λ f. w .1 (λ i l. f .own i (omega arith)))
 
 pub finished-spec : {M : Type 1} → statement M
 finished-spec =
@@ -75,9 +89,11 @@ finished-spec =
     shared-slice-read-own-ends
     mul-own-ends-2
     shared-slice-read-own-ends-2
+    mul-own-ends-3
+    shared-slice-read-own-ends-3
     own-ends-requires
-    returns-3
+    add-wrong
     add-r
     loop-less
     loop-again
-    returns-4)
+    returns-3)

@@ -40,9 +40,6 @@ count-end-requires c κs = (search needs, omega (arith, ltb-false))
 returns-3 : tie.Need-returns-3
 returns-3 c = tells-no (λ j. c .if6 .taken (c .before .count-end .ensures ∙ j .begins _ (omega (arith, ltb-false)) (omega (arith, ltb-false)) .0))
 
-sub-ended : tie.Need-sub-ended
-sub-ended c = search needs
-
 ended-requires : tie.Need-ended-requires
 ended-requires c κs = (search needs, omega (arith, ltb-false))
 
@@ -60,7 +57,7 @@ returns-4 c =
             most = omega (arith, ltb-false);
             begins = λ k h l. let z : k ≡ count - 1 = omega arith in rw z (sym (e .count-end .ensures) ∙ c .before .if6 .left, w);
           },
-      λ j. j .begins _ (omega (arith, ltb-false)) (omega (arith, ltb-false)) .1,
+      λ j. j .begins (count - 1) (omega (arith, ltb-false)) (omega (arith, ltb-false)) .1,
     )
     (c .ended .ensures)
 
@@ -74,6 +71,5 @@ joins-spec =
     sub-count-end
     count-end-requires
     returns-3
-    sub-ended
     ended-requires
     returns-4)
