@@ -11,7 +11,7 @@ use lib.Seq.{length-take-le}
 use borrow.Author.Tests.{eqb-true, eqb-false}
 use Rattle.table.specs.Kind as kind
 use Rattle.table.specs.Regions.{altered}
-use Rattle.table.proofs.Write.{altered-same, altered-trans}
+use Rattle.table.proofs.Write.{altered-same, altered-trans, altered-before}
 use Rattle.rules.specs.History.{Limits}
 use Rattle.rules.specs.Picture.{Picture}
 use Rattle.rules.specs.Steps.{empty}
@@ -27,7 +27,6 @@ use Rattle.layout.proofs.After.{laid-is}
 use Rattle.layout.proofs.After as after-lay-out
 use Rattle.limiter.specs.Lent.{lent}
 use Rattle.limiter.proofs.Lent.{accepted}
-use Rattle.limiter.proofs.Changed.{altered-before}
 use Rattle.history.specs.Plain.{Call, carry, run, ask, layOut, Lent}
 use Rattle.history.specs.Words.{words, sliceAfter, mostAltered}
 use Rattle.history.proofs.Drawn.{drawn-long}

@@ -1,13 +1,12 @@
 -- The lent words after a call: what the step on the part that is the table comes to for all of them.
-use mathlib.Core.List.{List, [], _∷_, _++_}
-use mathlib.Core.Path.{_≡_, sym, subst}
+use mathlib.Core.List.{List, _++_}
+use mathlib.Core.Path.{_≡_, subst}
 use Prim.Native.Nat.{ℕ, _≤_}
 use native.Mathlib.Omega.{arith}
-use native.Mathlib.Nat.{suc-inj, suc-ne-zero}
 use lib.ListN.{length, take, drop, take-append-drop}
 use Rattle.table.specs.Kind as kind
 use Rattle.table.specs.Regions.{altered}
-use Rattle.table.proofs.Write.{altered-same}
+use Rattle.table.proofs.Write.{altered-same, altered-before}
 use Rattle.rules.specs.Picture.{Picture}
 use Rattle.rules.specs.Draw.{draw}
 use Rattle.rules.specs.Sound.{picture}
@@ -18,13 +17,6 @@ use Rattle.answers.specs.Offered.{openedOn}
 use Rattle.answers.proofs.Found.{found}
 use Rattle.limiter.specs.Lent.{lent}
 use Rattle.limiter.proofs.Lent.{refuses, part-size}
-
--- words that follow both lists alter nothing
-pub altered-before : (xs ys zs : List ℕ) → length ys ≡ length xs → altered (xs ++ zs) (ys ++ zs) ≡ altered xs ys
-altered-before [] [] zs e = altered-same zs
-altered-before [] (y ∷ ys) zs e = absurd (suc-ne-zero (length ys) e)
-altered-before (x ∷ xs) [] zs e = absurd (suc-ne-zero (length xs) (sym e))
-altered-before (x ∷ xs) (y ∷ ys) zs e = rw (altered-before xs ys zs (suc-inj e))
 
 module _ (step : Picture → Picture) (t : List ℕ) where
   -- what a call promises of them, altering few

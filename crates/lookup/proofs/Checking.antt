@@ -9,7 +9,7 @@ use lib.ListN.{length}
 use Rattle.table.specs.Kind as kind
 use Rattle.table.specs.Regions.{Sized, regions, bucketWord}
 use Rattle.table.specs.Owners.{lookupWords, orderWords}
-use Rattle.rules.specs.Rows.{In, Distinct}
+use Rattle.rules.specs.Rows.{In, NotIn, Distinct}
 use Rattle.rules.specs.Spread.{bucket}
 use Rattle.rules.specs.Parts.{Present}
 use Rattle.rules.specs.Tells.{Tells}
@@ -40,6 +40,14 @@ module _ (q : ℕ) (t : List ℕ) where
     pub many : length (rowsOf q chains) ≡ n
 
 module _ {q : ℕ} (hq : q ≤ kind.none) (t : List ℕ) {cs : List ℕ} (w : Present q (regions q t) cs) where
+  -- a row that is no client's is blank
+  pub unchained : (r : ℕ) → r < q → NotIn r cs → lookupWords (regions q t) .next r ≡ 0
+  unchained r l n =
+      elim (ℕ-discrete (orderWords (regions q t) .count r) 0) [
+        | yes e ↦ w .blank r l e .2
+        | no m ↦ absurd (not-both r cs (w .others r l m) n)
+      ]
+
   -- as many rows as there are clients, all clients, nobody twice: so all of them
   module _ (k : Counted q t (length cs)) where
     fit : (b r : ℕ) → b < q → In r (chains q t b) → Fits q t b r
@@ -69,11 +77,7 @@ module _ {q : ℕ} (hq : q ≤ kind.none) (t : List ℕ) {cs : List ℕ} (w : Pr
           ids = ids-by (idOf q t) cs (w .distinct)
               (λ r s i j e. ids-tell (idOf q t) (chains q t (bucket q (idOf q t r))) (k .good (bucket q (idOf q t r)) (bucket-below q (idOf q t r) (omega (arith, low r i))) .ids) r s (stands r i) (rw e (stands s j)) e);
           below = low;
-          unchained = λ r l n.
-              elim (ℕ-discrete (orderWords (regions q t) .count r) 0) [
-                | yes e ↦ w .blank r l e .2
-                | no m ↦ absurd (not-both r cs (w .others r l m) n)
-              ];
+          unchained = unchained;
         }
 
   module _ {C : ℕ → List ℕ} (F : Filed q (lookupWords (regions q t)) (idOf q t) cs C) where

@@ -5,3 +5,5 @@ mod Ids
 mod Writers
 mod Rooms
 mod Checking
+mod Paths
+mod Quick

@@ -101,7 +101,7 @@ module _ {q : ℕ} {t : List ℕ} {b first room at left : ℕ} (m : Rooms q t b 
       pub rooms-next : not ok ≡ false → (left ≡ 0 → ⊥) → {to : ℕ} → to ≡ clientWord t q at kind.nextInBucket → Rooms q t b first room to (left - 1)
       rooms-next e l next = rw next (record { so = λ r w. m .so r (left-more b left r z l (told f e) w) })
 
--- check_lookup: the chains before bucket b are right, and leave that room
+-- by_buckets: the chains before bucket b are right, and leave that room
 pub record Checks (q : ℕ) (t : List ℕ) (n b room : ℕ) : Type 0 where
   pub low : b ≤ q
   pub good : (j : ℕ) → j < b → Good q t j

@@ -1,10 +1,11 @@
 // The lookup of clients by id: for each bucket a chain of client rows.
 // Its functions rest on the table's size and on the spread table, which is lent down; find and leave also on a table that keeps its clients.
 ghost use mathlib.Core.Path.{_≡_};
+ghost use mathlib.Core.Bool.{true};
 ghost use Prim.Native.Nat.{_<_, _≤_};
 ghost use lib.ListN.{length, take};
 ghost use Rattle.table.specs.Kind as kind;
-ghost use Rattle.table.specs.Regions.{Sized, Writes, clientWord};
+ghost use Rattle.table.specs.Regions.{Sized, Writes, clientWord, bucketWord};
 ghost use Rattle.rules.specs.Rows.{In, NotIn};
 ghost use Rattle.rules.specs.Linked.{Link};
 ghost use Rattle.rules.specs.Spread.{IsSpread};
@@ -12,7 +13,7 @@ ghost use Rattle.rules.specs.Draw.{before};
 ghost use Rattle.rules.specs.Tells.{Tells};
 ghost use Rattle.lookup.specs.Promise.{Kept, Found, Home, Seeks, Enters, Leaves, Checked};
 ghost use Rattle.lookup.specs.Inside.Filed.{hook, leaveAt};
-ghost use Rattle.lookup.specs.Inside.Reading.{idOf, nextOf, from, Ends, Reaches, OwnIds, Fits, Left};
+ghost use Rattle.lookup.specs.Inside.Reading.{idOf, nextOf, from, Ends, Reaches, OwnIds, Fits, Left, filled, Comes, Stands, Reached};
 use table::LinkedTable;
 
 // Where an id was sought: its client's row, or none; and its bucket, which only the lookup reads.
@@ -236,8 +237,8 @@ fn own_ids(t: &[u32], q: usize, first: u32, n: usize) -> bool
     long_own_ids(t, q, first)
 }
 
-// The lookup's part of the soundness check, for n clients: every chain is right, and together they hold n rows.
-pub fn check_lookup(t: &[u32], q: usize, s: &[u32; 1024], n: u32) -> bool
+// The exact test, for n clients: every chain is right, and together they hold n rows.
+fn by_buckets(t: &[u32], q: usize, s: &[u32; 1024], n: u32) -> bool
     requires { ⌜ Sized q (now t) ⌝ }
     requires { ⌜ IsSpread (now s) ⌝ }
     ensures { λ ok. ⌜ Checked q (now (t .entry)) n ok ⌝ }
@@ -258,4 +259,94 @@ pub fn check_lookup(t: &[u32], q: usize, s: &[u32; 1024], n: u32) -> bool
         b += 1;
     }
     room == 1
+}
+
+// How many buckets hold a row.
+fn heads(t: &[u32], q: usize) -> u32
+    requires { ⌜ Sized q (now t) ⌝ }
+    ensures { λ n. ⌜ n ≡ length (filled (bucketWord (now (t .entry)) q) q) ⌝ }
+{
+    let mut n: u32 = 0;
+    let mut k: usize = 0;
+    while k < q {
+        n += if table::bucket(t, q, k) == LinkedTable::NONE {
+            0
+        } else {
+            1
+        };
+        k += 1;
+    }
+    n
+}
+
+// How many steps the quick test goes at most: so few that the compiler writes them out one after the other.
+const MOST_STEPS: usize = 7;
+
+// Whether the links from `first` on come to row r in a few steps, by clients whose ids are other than x.
+fn comes_to(t: &[u32], q: usize, first: u32, r: u32, x: u32) -> bool
+    requires { ⌜ Sized q (now t) ⌝ }
+    ensures { λ ok. ⌜ (ok ≡ true → Comes q (now (t .entry)) first r x) ⌝ }
+{
+    let rows = q as u32;
+    let mut at = first;
+    let mut left = MOST_STEPS;
+    while at != r {
+        if left == 0 || rows <= at {
+            return false;
+        }
+        let count = table::client(t, q, at, LinkedTable::COUNT);
+        let other = table::client(t, q, at, LinkedTable::ID);
+        if count == 0 || other == x {
+            return false;
+        }
+        at = table::client(t, q, at, LinkedTable::NEXT_IN_BUCKET);
+        left -= 1;
+    }
+    true
+}
+
+// Whether row r is come to in its id's bucket. Most rows are the first there.
+fn stands(t: &[u32], q: usize, s: &[u32; 1024], r: u32) -> bool
+    requires { ⌜ Sized q (now t) ⌝ }
+    requires { ⌜ (r < q) × IsSpread (now s) ⌝ }
+    ensures { λ ok. ⌜ (ok ≡ true → Stands q (now (t .entry)) r) ⌝ }
+{
+    let id = table::client(t, q, r, LinkedTable::ID);
+    let home = spread::bucket_in(s, id, q);
+    let first = table::bucket(t, q, home);
+    comes_to(t, q, first, r, id)
+}
+
+// The quick test, for n clients, which a crowded bucket fails: each is come to in its bucket, and n pointers hold a row, so that none leads elsewhere.
+fn by_clients(t: &[u32], q: usize, s: &[u32; 1024], n: u32) -> bool
+    requires { ⌜ Sized q (now t) ⌝ }
+    requires { ⌜ IsSpread (now s) ⌝ }
+    ensures { λ ok. ⌜ (ok ≡ true → Reached q (now (t .entry)) n) ⌝ }
+{
+    let rows = q as u32;
+    let mut links = heads(t, q);
+    let mut r: u32 = 0;
+    while r < rows {
+        if table::client(t, q, r, LinkedTable::COUNT) != 0 {
+            if !stands(t, q, s, r) {
+                return false;
+            }
+            links += if table::client(t, q, r, LinkedTable::NEXT_IN_BUCKET) == LinkedTable::NONE {
+                0
+            } else {
+                1
+            };
+        }
+        r += 1;
+    }
+    links == n
+}
+
+// The lookup's part of the soundness check, for n clients: the quick test, which says nothing where it fails, or the exact one.
+pub fn check_lookup(t: &[u32], q: usize, s: &[u32; 1024], n: u32) -> bool
+    requires { ⌜ Sized q (now t) ⌝ }
+    requires { ⌜ IsSpread (now s) ⌝ }
+    ensures { λ ok. ⌜ Checked q (now (t .entry)) n ok ⌝ }
+{
+    by_clients(t, q, s, n) || by_buckets(t, q, s, n)
 }

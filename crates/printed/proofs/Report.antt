@@ -1,17 +1,16 @@
 -- The numbers of a run's report: no total passes the number of commands carried out, which is at most the budget.
 use mathlib.Core.List.{List, [], _∷_}
-use mathlib.Core.Path.{_≡_, refl, ap}
 use Prim.Native.Nat.{ℕ, zero, suc, _+_, _≤_}
 use native.Mathlib.Omega.{arith}
 use lib.Dec.{eqb, ltb}
 use lib.ListN.{length, drop}
 use Rattle.rules.specs.Rows.{All}
-use Rattle.rules.specs.History.{Waiting, Limits, limits, nobody}
+use Rattle.rules.specs.History.{limits, nobody}
 use Rattle.rules.specs.Numbers as number
-use Rattle.rules.specs.Commands.{Command, Outcome, joined, evicted, turned, passed, served, idle, step}
+use Rattle.rules.specs.Commands.{Command, Outcome, joined, evicted, turned, passed, served, idle}
 use Rattle.rules.specs.Run.{commandBytes, kindOf, idIn, ticketIn, known, stop, carried, outcomes, adds, total}
 use Rattle.rules.proofs.Choose.{either-way}
-use Rattle.rules.proofs.Run.{all-counted}
+use Rattle.rules.proofs.Run.{all-counted, outcomes-length}
 use Rattle.printed.specs.Printed.{budget, reportNumbers}
 
 stop-most : (b : ℕ) (s : List ℕ) → stop b s ≤ number.badCommand
@@ -31,10 +30,6 @@ carried-most (suc b) s =
     either-way few (eqb (length s) 0) (omega arith)
     (either-way few (ltb (length s) commandBytes) (omega arith)
     (either-way few (known (kindOf s) (idIn s) (ticketIn s)) (omega (arith, carried-most b (drop commandBytes s))) (omega arith)))
-
-outcomes-length : (L : Limits) (s : Waiting) (cs : List Command) → length (outcomes L s cs) ≡ length cs
-outcomes-length L s [] = refl
-outcomes-length L s (c ∷ cs) = ap suc (outcomes-length L (step L s c) cs)
 
 -- what evicts or passes a request joins
 who-joins : (o : Outcome) → adds o .evicted + adds o .passed ≤ adds o .joined

@@ -1,5 +1,5 @@
 -- Who waits after commands from nobody: whose requests they are, and how many.
-use mathlib.Core.List.{List, [], _∷_, reverse, reverseAux}
+use mathlib.Core.List.{List, [], _∷_, reverse}
 use mathlib.Core.Bool.{true, cond}
 use mathlib.Core.Path.{_≡_, ap, subst}
 use Prim.Native.Nat.{ℕ, zero, suc, _^_, _≤_, _<_}
@@ -18,7 +18,7 @@ use Rattle.rules.specs.Steps.{empty}
 use Rattle.rules.specs.Commands.{Command, arriving, sliding, serving, step}
 use Rattle.rules.specs.Run.{commandBytes, kindOf, idIn, ticketIn, known, commandOf, carried, after, nextAll}
 use Rattle.rules.proofs.Choose.{either-way}
-use Rattle.rules.proofs.Rows.{all-snoc, in-all, rising-least}
+use Rattle.rules.proofs.Rows.{all-snoc, all-reverse, in-all, rising-least}
 use Rattle.rules.proofs.Right.{window-fits, clients-fit}
 use Rattle.rules.proofs.Empty.{empty-right}
 use Rattle.rules.proofs.Sharing.{Fair, right-fair}
@@ -92,10 +92,6 @@ counted-low i (r ∷ w) a h =
       | yes e ↦ rw (← e) (a .0)
       | no n ↦ counted-low i w (a .1) (rw (ne-eqb (r .id) i n) at h)
     ]
-
-all-reverse : (F : ℕ → Type 0) (xs ys : List ℕ) → All F xs → All F ys → All F (reverseAux xs ys)
-all-reverse F [] ys a b = b
-all-reverse F (x ∷ xs) ys a b = all-reverse F xs (x ∷ ys) (a .1) (a .0, b)
 
 -- who waits after commands in a window of q places where nobody waited
 module _ (q : ℕ) (range : kind.inRange q ≡ true) (cs : List Command) where

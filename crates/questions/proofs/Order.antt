@@ -16,6 +16,7 @@ use Rattle.rules.specs.Picture.{Client, clientRow, clientId, clientRows, plain}
 use Rattle.rules.specs.Sound.{picture}
 use Rattle.rules.specs.Ready.{Ready}
 use Rattle.rules.proofs.Choose.{either-way, side-by-side}
+use Rattle.rules.proofs.Rows.{all-reverse}
 use Rattle.rules.proofs.Put.{put-there, all-puts, take-all}
 use Rattle.rules.proofs.Right.{clients-distinct}
 use Rattle.rules.proofs.Plain.{clients-plain}
@@ -51,10 +52,6 @@ all-take : {A : Type 0} (F : A → Type 0) (k : ℕ) (xs : List A) → All F xs 
 all-take F zero xs a = tt
 all-take F (suc k) [] a = tt
 all-take F (suc k) (x ∷ xs) a = (a .0, all-take F k xs (a .1))
-
-all-reverse : {A : Type 0} (F : A → Type 0) (xs ys : List A) → All F xs → All F ys → All F (reverseAux xs ys)
-all-reverse F [] ys a b = b
-all-reverse F (x ∷ xs) ys a b = all-reverse F xs (x ∷ ys) (a .1) (a .0, b)
 
 all-taken : {A : Type 0} (F : A → Type 0) (end k : ℕ) (xs : List A) → All F xs → All F (take k (fromEnd end xs))
 all-taken F end k xs a = all-take F k (fromEnd end xs) (either-way (All F) (eqb end kind.lightestAt) a (all-reverse F xs [] a tt))

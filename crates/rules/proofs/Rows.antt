@@ -1,5 +1,5 @@
 -- Laws of lists of rows, said once for every layer.
-use mathlib.Core.List.{List, [], _∷_, _++_, map}
+use mathlib.Core.List.{List, [], _∷_, _++_, map, reverseAux}
 use mathlib.Core.Bool.{Bool, true, false}
 use mathlib.Core.Path.{_≡_, refl, sym, ap, ap₂, _∙_, subst}
 use mathlib.Core.Logic.{_⊎_, ⊎-elim, inl, inr}
@@ -251,6 +251,10 @@ notin-all key r xs n = all-puts (λ x. r ≡ key x → ⊥) xs (λ x ys p. take-
 pub all-snoc : {A : Type 0} (F : A → Type 0) (xs : List A) (x : A) → All F xs → F x → All F (xs ++ x ∷ [])
 all-snoc F [] x a f = (f, tt)
 all-snoc F (y ∷ xs) x a f = (a .0, all-snoc F xs x (a .1) f)
+
+pub all-reverse : {A : Type 0} (F : A → Type 0) (xs ys : List A) → All F xs → All F ys → All F (reverseAux xs ys)
+all-reverse F [] ys a b = b
+all-reverse F (x ∷ xs) ys a b = all-reverse F xs (x ∷ ys) (a .1) (a .0, b)
 
 pub map-snoc : {A B : Type 0} (f : A → B) (xs : List A) (x : A) → map f (xs ++ x ∷ []) ≡ map f xs ++ (f x ∷ [])
 map-snoc f [] x = refl

@@ -1,5 +1,5 @@
 -- Writers: the count of altered words, one word, one writer after another, and words that were read on the way.
-use mathlib.Core.List.{List, [], _∷_}
+use mathlib.Core.List.{List, [], _∷_, _++_}
 use mathlib.Core.Bool.{Bool, true, false, cond}
 use mathlib.Core.Path.{_≡_, refl, sym, ap, _∙_}
 use Prim.Native.Nat.{ℕ, zero, suc, _+_, _≤_, _<_}
@@ -22,6 +22,13 @@ altered-same (x ∷ xs) = rw (eq-eqb x x refl, altered-same xs)
 bit : (b : Bool) → cond b 0 1 ≤ 1
 bit true = omega arith
 bit false = omega arith
+
+-- words that follow both lists alter nothing
+pub altered-before : (xs ys zs : List ℕ) → length ys ≡ length xs → altered (xs ++ zs) (ys ++ zs) ≡ altered xs ys
+altered-before [] [] zs e = altered-same zs
+altered-before [] (y ∷ ys) zs e = absurd (suc-ne-zero (length ys) e)
+altered-before (x ∷ xs) [] zs e = absurd (suc-ne-zero (length xs) (sym e))
+altered-before (x ∷ xs) (y ∷ ys) zs e = rw (altered-before xs ys zs (suc-inj e))
 
 pub altered-set : (xs : List ℕ) (i v : ℕ) → altered xs (set xs i v) ≤ 1
 altered-set [] i v = omega arith
