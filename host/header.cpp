@@ -8,7 +8,10 @@ static_assert(sizeof(boomspool_listed) == 16 && offsetof(boomspool_listed, pairs
 static_assert(sizeof(boomspool_counted) == 8 && offsetof(boomspool_counted, count) == 4, "counted");
 static_assert(sizeof(boomspool_told) == 8 && offsetof(boomspool_told, ticket) == 4, "told");
 static_assert(sizeof(boomspool_ran) == 64 && offsetof(boomspool_ran, done) == 8 && offsetof(boomspool_ran, idle) == 56, "ran");
-static_assert(sizeof(boomspool_day) == 48 && offsetof(boomspool_day, idle) == 40, "day");
+static_assert(sizeof(boomspool_day) == 48 && alignof(boomspool_day) == alignof(uint64_t), "day");
+static_assert(offsetof(boomspool_day, joined) == 0 && offsetof(boomspool_day, evicted) == 8 && offsetof(boomspool_day, passed) == 16, "day");
+static_assert(offsetof(boomspool_day, served) == 24 && offsetof(boomspool_day, turned) == 32 && offsetof(boomspool_day, idle) == 40, "day");
+static_assert(BOOMSPOOL_VERSION >= 1, "version");
 
 int main()
 {

@@ -4,12 +4,21 @@
  * written. NULL goes with 0 words alone. Every call may be given any words and any numbers: what it cannot work on it
  * refuses with a number, and then writes nothing. What nothing here can check is yours: each pointer is valid for the
  * length beside it, buffers lent to one call do not overlap, and nobody else writes them meanwhile.
+ *
+ * Alignment: tables and outputs are words of 4 bytes, aligned as uint32_t; the day record as uint64_t; commands are bytes.
+ *
+ * Cost: every call but words and lay-out first checks the whole table, which is nearly all of the time of a single call.
+ * A run checks it once for all its commands, but reports totals; single calls name the request that left.
+ * Clients whose ids share a bucket make the check and the search for a client slower (HOST, 'What a call costs').
  */
 #ifndef BOOMSPOOL_H
 #define BOOMSPOOL_H
 
 #include <stddef.h>
 #include <stdint.h>
+
+/* The number of this header: it rises with each landing that changes it. */
+#define BOOMSPOOL_VERSION 1
 
 #ifdef __cplusplus
 extern "C" {
