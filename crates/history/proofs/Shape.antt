@@ -4,9 +4,8 @@ use mathlib.Core.List.{List, [], _∷_, _++_, map, map-id}
 use mathlib.Core.Path.{_≡_, refl, sym, ap, ap₂, _∙_, subst}
 use Prim.Native.Nat.{ℕ, _≤_}
 use native.Mathlib.Omega.{arith}
-use lib.ListN.{length, getD, take, length-map}
+use lib.ListN.{length, getD, take}
 use lib.Seq.{take-at}
-use borrow.Author.Tests.{lt-leb}
 use Rattle.table.specs.Kind as kind
 use Rattle.table.specs.Regions.{regions, clientWord}
 use Rattle.table.specs.Owners.{orderWords}
@@ -14,7 +13,7 @@ use Rattle.rules.specs.Rows.{headOr, lastOr, rest, In, NotIn, All, Distinct, Ri
 use Rattle.rules.specs.Linked as linked
 use Rattle.rules.specs.Linked.{Linked}
 use Rattle.rules.specs.History.{Request, Waiting, Limits, count, full, choice, evicted}
-use Rattle.rules.specs.Picture.{Item, Client, Picture, item, itemRow, clientRow, clientId, itemRows, clientRows, countOf, requestOf, limitsOf, plain}
+use Rattle.rules.specs.Picture.{Item, Client, Picture, item, itemRow, clientRow, clientId, itemRows, clientRows, countOf, limitsOf, plain}
 use Rattle.rules.specs.Steps.{withoutItem, admitted, known, join, leave, newestItem, frontItem, arrived, slid, served}
 use Rattle.rules.specs.Draw.{draw}
 use Rattle.rules.specs.Sound.{picture, Right, Sound}
@@ -36,7 +35,7 @@ use Rattle.history.specs.Plain.{Lent, State}
 use Rattle.history.specs.Words.{tableAfter}
 use Rattle.history.proofs.Drawn.{drawn-long}
 use Rattle.history.proofs.History.{left, history, the-table, the-state, the-right}
-use Rattle.steps.proofs.Choices.{arrived-by, slid-joined, served-front}
+use Rattle.steps.proofs.Choices.{arrived-by, slid-joined, served-front, room-open}
 
 -- a word of each client's row that is a value of its id
 by-id : (word value : ℕ → ℕ) (cs : List Client) → All (λ c. word (c .row) ≡ value (c .id)) cs → map word (map clientRow cs) ≡ map value (map clientId cs)
@@ -173,10 +172,7 @@ module _ (P : Picture) (v : Right P) (h : 1 ≤ length (P .window)) (id ticket :
   goes = served-front P (λ e. omega (arith, e, h))
 
   has-room : full (limitsOf (leave P front)) (plain (leave P front)) ≡ false
-  has-room =
-      let J : Picture = leave P front in
-      let one : 1 ≤ length (J .freeItems) = rw (leave-frees P front) (omega arith) in
-      lt-leb (J .places) (length (plain J .window)) (omega (arith, one, places J (front-step P v h .right), length-map (J .window) (requestOf (J .clients))))
+  has-room = room-open (leave P front) (front-step P v h .right) (rw (leave-frees P front) (omega arith))
 
   pub served-row-next : (itemRows (arrived (served P) id ticket) ≡ itemRows (served P) ++ front .row ∷ []) × (itemRows (slid (served P) id ticket) ≡ itemRows (served P) ++ front .row ∷ [])
   served-row-next =

@@ -1,26 +1,28 @@
 -- Which step a picture takes, by the tests that the code makes; and what an item that left makes room for.
 use mathlib.Core.List.{List, [], _∷_, map}
-use mathlib.Core.Bool.{Bool, true, false, not}
+use mathlib.Core.Bool.{Bool, true, false}
 use mathlib.Core.Path.{_≡_, refl, sym, ap, ap₂, _∙_, subst}
 use Prim.Native.Nat.{ℕ, _≤_}
 use native.Mathlib.Omega.{arith}
 use lib.ListN.{length, length-map}
-use borrow.Author.Tests.{eq-eqb, ne-eqb, not-true, not-false}
-use Rattle.rules.specs.History.{Request, Waiting, Choice, Left, nothing, count, newest, heaviestClient, largestCount, full, turnedAway, choice, slideLeft, front}
+use borrow.Author.Tests.{eq-eqb, ne-eqb, lt-leb}
+use Rattle.table.specs.Kind as kind
+use Rattle.rules.specs.History.{Request, Waiting, Choice, nothing, full, turnedAway, choice, slideLeft, front}
 use Rattle.rules.specs.History as history
 use Rattle.rules.specs.Picture.{Item, Picture, requestOf, limitsOf, plain}
 use Rattle.rules.specs.Steps.{join, leave, frontItem, arrivedAs, arrived, slid, served}
 use Rattle.rules.specs.Draw.{draw}
-use Rattle.rules.specs.Sound.{picture}
+use Rattle.rules.specs.Sound.{picture, Right}
 use Rattle.rules.specs.Ready.{Ready}
-use Rattle.rules.proofs.Rule.{choice-joined, choice-turned, choice-evicted}
+use Rattle.rules.proofs.Rule.{choice-joined}
 use Rattle.rules.proofs.Settle.{Step}
 use Rattle.rules.proofs.Moves.{leave-frees}
-use Rattle.rules.proofs.Leaving.{front-request}
+use Rattle.rules.proofs.Right.{places}
+use Rattle.rules.proofs.Leaving.{front-request, front-step}
 use Rattle.rules.proofs.Steps.{full-waits, open-room}
-use Rattle.rules.proofs.Ready.{ready-right, ready-drawn, drawn-ready, drawn-picture}
-use Rattle.answers.specs.Engine.{asStruct, asChoice, asLeft}
-use Rattle.answers.specs.declared.Choice.the-variants as choices
+use Rattle.rules.proofs.Ready.{ready-right, ready-drawn, ready-sized, drawn-ready, drawn-picture}
+use Rattle.answers.specs.Engine.{asStruct, asLeft}
+use Rattle.answers.specs.declared.Left.{Left}
 use Rattle.answers.specs.declared.Left.the-variants as lefts
 
 module _ (P : Picture) (id ticket : ℕ) where
@@ -53,6 +55,10 @@ nobody-first : (f : Item → Request) (w : List Item) → length w ≡ 0 → fro
 nobody-first f [] e = refl
 nobody-first f (i ∷ w) e = absurd (omega (arith, e))
 
+-- a step draws as many words as there were
+pub same-long : {q : ℕ} {s : Waiting} {t u : List ℕ} {J : Picture} → Ready q t → Step (limitsOf (picture t)) s J → u ≡ draw J → length u ≡ length t
+same-long y j e = ready-sized (drawn-ready j e) .long ∙ ap kind.size (y .places) ∙ sym (ready-sized y .long)
+
 -- after an item left, a place is free, and the next request joins the picture without it
 module _ {q : ℕ} {s : Waiting} {t a : List ℕ} (i : Item) (y : Ready q t) (j : Step (limitsOf (picture t)) s (leave (picture t) i)) (e : a ≡ draw (leave (picture t) i)) where
   pub then-ready : Ready q a
@@ -64,51 +70,56 @@ module _ {q : ℕ} {s : Waiting} {t a : List ℕ} (i : Item) (y : Ready q t) (j 
   pub then-room : 1 ≤ length (picture a .freeItems)
   then-room = rw (then-picture, leave-frees (picture t) i) (omega arith)
 
-  pub then-joined : {u : List ℕ} (id ticket : ℕ) → u ≡ draw (join (picture a) id ticket) → u ≡ draw (join (leave (picture t) i) id ticket)
-  then-joined id ticket d = d ∙ ap (λ (J : Picture). draw (join J id ticket)) then-picture
+-- where an item row is free, the window is not full
+pub room-open : (P : Picture) → Right P → 1 ≤ length (P .freeItems) → full (limitsOf P) (plain P) ≡ false
+room-open P v h =
+    lt-leb (P .places) (length (plain P .window)) (omega (arith, h, places P v, length-map (P .window) (requestOf (P .clients))))
 
--- what the calls come to, b being the code's test of a full window
+-- b is the code's test of a full window
 module _ {q : ℕ} {t : List ℕ} (y : Ready q t) {b : Bool} (is : b ≡ full (limitsOf (picture t)) (plain (picture t))) where
   abbrev P : Picture
   P = picture t
 
-  is-open : not b ≡ true → full (limitsOf P) (plain P) ≡ false
-  is-open e = sym is ∙ not-true b e
+  open-place : b ≡ false → 1 ≤ length (P .freeItems)
+  open-place e = open-room P (ready-right y) (sym is ∙ e)
 
-  is-full : not b ≡ false → full (limitsOf P) (plain P) ≡ true
-  is-full e = sym is ∙ not-false b e
+  pub some-wait : b ≡ true → 1 ≤ length (P .window)
+  some-wait e = full-waits P (ready-right y) (sym is ∙ e)
 
-  pub open-place : not b ≡ true → 1 ≤ length (P .freeItems)
-  open-place e = open-room P (ready-right y) (is-open e)
+-- a table where a request can join, after another left or as it was, and what it is to the slide
+pub record Roomy (q : ℕ) (t u : List ℕ) (left : Left) : Type 0 where
+  pub ready : Ready q u
+  pub room : 1 ≤ length (picture u .freeItems)
+  pub told : left ≡ asLeft (slideLeft (limitsOf (picture t)) (plain (picture t)))
+  pub joins : (id ticket : ℕ) → join (picture u) id ticket ≡ slid (picture t) id ticket
 
-  pub some-wait : not b ≡ false → 1 ≤ length (P .window)
-  some-wait e = full-waits P (ready-right y) (is-full e)
+pub roomy-so : {q : ℕ} {t u v : List ℕ} {left gone : Left} → u ≡ v → left ≡ gone → Roomy q t v gone → Roomy q t u left
+roomy-so {q} {t} {v = v} {left} e l r = subst (λ (x : List ℕ). Roomy q t x left) (sym e) (subst (Roomy q t v) (sym l) r)
 
-  module _ (id ticket : ℕ) where
-    abbrev goes : Bool
-    goes = turnedAway true (count id (plain P .window)) (largestCount (plain P))
+-- the request that arrives there joins
+pub roomy-slid : {q : ℕ} {t u v : List ℕ} {left : Left} → Roomy q t u left → (id ticket : ℕ) → v ≡ draw (arrived (picture u) id ticket) → v ≡ draw (slid (picture t) id ticket)
+roomy-slid {u = u} r id ticket d =
+    let room = room-open (picture u) (ready-right (r .ready)) (r .room) in
+    d ∙ ap draw (arrived-by (picture u) id ticket (choice-joined (limitsOf (picture u)) (plain (picture u)) id room) ∙ r .joins id ticket)
 
-    pub arrive-joins : {u : List ℕ} → not b ≡ true → u ≡ draw (join P id ticket) → (choices.Joined ≡ asChoice (choice (limitsOf P) (plain P) id)) × (u ≡ draw (arrived P id ticket))
-    arrive-joins e d =
-        let c = choice-joined (limitsOf P) (plain P) id (is-open e) in
-        (sym (ap asChoice c), d ∙ ap draw (sym (arrived-by P id ticket c)))
+module _ {q : ℕ} {t : List ℕ} (y : Ready q t) {b : Bool} (is : b ≡ full (limitsOf (picture t)) (plain (picture t))) where
+  -- a place was free
+  pub had-room : b ≡ false → Roomy q t t lefts.Nothing
+  had-room e =
+      let room = sym is ∙ e in
+      record { ready = y; room = open-place y is e; told = rw room; joins = λ id ticket. sym (slid-joined (picture t) id ticket room) }
 
-    pub arrive-turned : not b ≡ false → goes ≡ true → (choices.Turned ≡ asChoice (choice (limitsOf P) (plain P) id)) × (t ≡ draw (arrived P id ticket))
-    arrive-turned e a =
-        let c = choice-turned (limitsOf P) (plain P) id (is-full e) a in
-        (sym (ap asChoice c), ready-drawn y ∙ ap draw (sym (arrived-by P id ticket c)))
-
-    -- the choice where one is evicted
-    pub arrive-evicts : not b ≡ false → goes ≡ false → choice (limitsOf P) (plain P) id ≡ Choice.evicted (newest (heaviestClient (plain P)) (plain P .window))
-    arrive-evicts e a = choice-evicted (limitsOf P) (plain P) id (is-full e) a
-
-    pub slide-joins : {u : List ℕ} → not b ≡ true → u ≡ draw (join P id ticket) → (lefts.Nothing ≡ asLeft (slideLeft (limitsOf P) (plain P))) × (u ≡ draw (slid P id ticket))
-    slide-joins e d = (rw (is-open e), d ∙ ap draw (sym (slid-joined P id ticket (is-open e))))
-
-    pub slide-passes : {u : List ℕ} → not b ≡ false → u ≡ draw (join (leave P (frontItem (P .window))) id ticket)
-        → (lefts.One (asStruct (requestOf (P .clients) (frontItem (P .window)))) ≡ asLeft (slideLeft (limitsOf P) (plain P))) × (u ≡ draw (slid P id ticket))
-    slide-passes e d =
-        (rw (is-full e, front-request P (ready-right y) (some-wait e)), d ∙ ap draw (sym (slid-passed P id ticket (is-full e))))
+  -- the front request left
+  pub made-room : {u : List ℕ} → b ≡ true → u ≡ draw (leave (picture t) (frontItem (picture t .window))) → Roomy q t u (lefts.One (asStruct (requestOf (picture t .clients) (frontItem (picture t .window)))))
+  made-room e d =
+      let w = some-wait y is e in
+      let j = front-step (picture t) (ready-right y) w in
+      record {
+        ready = then-ready _ y j d;
+        room = then-room _ y j d;
+        told = rw (sym is ∙ e, front-request (picture t) (ready-right y) w);
+        joins = λ id ticket. ap (λ (J : Picture). join J id ticket) (then-picture _ y j d) ∙ sym (slid-passed (picture t) id ticket (sym is ∙ e));
+      }
 
 -- and by how many wait
 module _ {q : ℕ} {t : List ℕ} (y : Ready q t) {n : ℕ} (is : n ≡ length (picture t .window)) where

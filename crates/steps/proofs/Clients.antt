@@ -4,7 +4,6 @@ use mathlib.Core.Bool.{Bool, true, false, cond}
 use mathlib.Core.Path.{_≡_, refl, sym, ap, ap₂, _∙_, subst}
 use mathlib.Core.Logic.{inl}
 use Prim.Native.Nat.{ℕ, _≤_, _<_}
-use native.Mathlib.Omega.{arith}
 use lib.Dec.{eqb}
 use lib.ListN.{length, getD, List·getD-map}
 use borrow.Author.Tests.{eq-eqb, ne-eqb, eqb-true, eqb-false, le-leb}
@@ -13,7 +12,7 @@ use Rattle.table.specs.Regions.{Regions, words, regions, at}
 use Rattle.table.specs.Owners.{LookupWords, OrderWords, fixedWords, lookupWords, orderWords}
 use Rattle.table.proofs.Draw.{at-same, at-other}
 use Rattle.table.proofs.Whole.{whole}
-use Rattle.rules.specs.Rows.{headOr, without, In, NotIn, All, Rising}
+use Rattle.rules.specs.Rows.{headOr, without, In, NotIn, Rising}
 use Rattle.rules.specs.Spread.{bucket}
 use Rattle.rules.specs.History as history
 use Rattle.rules.specs.Picture.{Item, Client, Picture, client, clientRow, clientId, clientRows, countOf, idOf}
@@ -32,7 +31,7 @@ use Rattle.rules.proofs.Plain.{place-put, client-out}
 use Rattle.rules.proofs.Settle.{waiting, ordered}
 use Rattle.rules.proofs.Moved.{without-rows, place-rows}
 use Rattle.rules.proofs.Ready.{ready-right, ready-sized, ready-fixed, ready-ordered, ready-holds}
-use Rattle.lookup.specs.Promise.{Keeps, KeepsIn, put, cut, keeps-chains, ready-keeps}
+use Rattle.lookup.specs.Promise.{Keeps, put, cut, keeps-chains, ready-keeps}
 use Rattle.order.specs.Moves.{admitted, dismissed}
 use Rattle.order.proofs.Coming.{admitted-ordered}
 use Rattle.order.proofs.Going.{dismissed-ordered}

@@ -5,7 +5,7 @@ use Prim.Native.Nat.{ℕ, _+_, _≤_, _<_}
 use native.Mathlib.Omega.{arith}
 use lib.ListN.{length, getD}
 use Rattle.table.specs.Kind as kind
-use Rattle.table.specs.Regions.{Regions, words, regions, clientWord, Writes, at}
+use Rattle.table.specs.Regions.{Regions, regions, clientWord, Writes, at}
 use Rattle.table.specs.Owners.{LookupWords, orderWords, windowWords, withLookup}
 use Rattle.table.proofs.Write.{then, draws}
 use Rattle.rules.specs.Rows.{headOr, lastOr, rest, In, NotIn}
@@ -15,7 +15,7 @@ use Rattle.rules.specs.Picture.{Item, Client, Picture, item, client, clientRow,
 use Rattle.rules.specs.Steps.{admit, joinAs, join}
 use Rattle.rules.specs.Parts.{Queued}
 use Rattle.rules.specs.Draw.{draw}
-use Rattle.rules.specs.Sound.{picture, Right, Holds}
+use Rattle.rules.specs.Sound.{picture, Holds}
 use Rattle.rules.specs.Ready.{Ready}
 use Rattle.rules.proofs.Rows.{in-below, below-right, head-some, notin}
 use Rattle.rules.proofs.Put.{put-last, put-there}

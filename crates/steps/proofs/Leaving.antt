@@ -12,11 +12,11 @@ use Rattle.table.specs.Owners.{LookupWords, orderWords, windowWords, withLookup
 use Rattle.table.proofs.Write.{then, draws}
 use Rattle.rules.specs.Rows.{In, Distinct, without}
 use Rattle.rules.specs.History as history
-use Rattle.rules.specs.Picture.{Item, Picture, itemRow, clientRow, clientId, itemRows, clientRows, ownRows, countOf, idOf, requestOf, limitsOf, plain}
+use Rattle.rules.specs.Picture.{Item, Picture, itemRow, itemRows, clientRows, countOf, idOf, requestOf, limitsOf, plain}
 use Rattle.rules.specs.Steps.{withoutItem, leave}
 use Rattle.rules.specs.Parts.{Queued}
 use Rattle.rules.specs.Draw.{draw}
-use Rattle.rules.specs.Sound.{picture, Right, Holds}
+use Rattle.rules.specs.Sound.{picture, Holds}
 use Rattle.rules.specs.Ready.{Ready}
 use Rattle.rules.proofs.Rows.{in-below, not-both}
 use Rattle.rules.proofs.Put.{Put, here, there, put-there, put-in, take-all, take-out}
@@ -36,7 +36,6 @@ use Rattle.window.specs.Steps.{left}
 use Rattle.window.specs.Shown.{ItemOf}
 use Rattle.window.proofs.Left.{left-queued}
 use Rattle.answers.specs.Engine.{asStruct}
-use Rattle.questions.proofs.Kept.{client-low}
 use Rattle.steps.specs.Items.{itemIn}
 use Rattle.steps.proofs.Others.{OthersIn, others-hold}
 use Rattle.steps.proofs.Clients.{whole-words, names, others-moved, others-left}

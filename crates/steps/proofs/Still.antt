@@ -11,25 +11,27 @@ use Rattle.table.specs.Kind as kind
 use Rattle.table.specs.Regions.{regions}
 use Rattle.table.specs.Owners.{orderWords}
 use Rattle.rules.specs.Rows.{lastOr, In}
-use Rattle.rules.specs.History.{Waiting, evicted, count, countOf, newest, withoutNewest, heaviestClient, largestCount, turnedAway, choice}
+use Rattle.rules.specs.History.{Waiting, count, countOf, withoutNewest, heaviestClient, largestCount, full, turnedAway, choice}
 use Rattle.rules.specs.History as history
-use Rattle.rules.specs.Picture.{Item, Picture, item, clientRow, clientId, clientRows, idOf, requestOf, limitsOf, plain}
+use Rattle.rules.specs.Picture.{Item, Picture, item, clientRows, idOf, requestOf, limitsOf, plain}
 use Rattle.rules.specs.Steps.{newestItem, join, leave, arrived}
 use Rattle.rules.specs.Draw.{draw}
 use Rattle.rules.specs.Sound.{picture}
 use Rattle.rules.specs.Ready.{Ready}
-use Rattle.rules.proofs.Rule.{stays-light}
+use Rattle.rules.proofs.Rule.{stays-light, choice-joined, choice-turned, choice-evicted}
 use Rattle.rules.proofs.Leaving.{heaviest-is, newest-is, evicted-request, evict-step}
 use Rattle.rules.proofs.Staying.{Staying, leave-staying}
-use Rattle.rules.proofs.Ready.{ready-right}
+use Rattle.rules.proofs.Steps.{open-room}
+use Rattle.rules.proofs.Ready.{ready-right, ready-drawn}
 use Rattle.lookup.specs.declared.Sought.{Sought}
 use Rattle.lookup.specs.Promise.{Found, Home, Seeks}
 use Rattle.answers.specs.Engine.{asStruct, asChoice}
 use Rattle.answers.specs.declared.Request.{Request}
+use Rattle.answers.specs.declared.Choice as code
 use Rattle.answers.specs.declared.Choice.the-variants as choices
 use Rattle.questions.proofs.Kept.{ready-found, found-client}
 use Rattle.steps.proofs.Clients.{names}
-use Rattle.steps.proofs.Choices.{arrived-by, then-ready, then-picture, then-room, then-joined}
+use Rattle.steps.proofs.Choices.{arrived-by, then-ready, then-picture, then-room}
 
 -- the newest request of another client is none of i's
 count-without : (i h : ℕ) → (i ≡ h → ⊥) → (w : List history.Request) → count i (withoutNewest h w) ≡ count i w
@@ -47,6 +49,16 @@ not-heaviest s i away e =
     let same : count i (s .window) ≡ largestCount s = ap (λ (x : ℕ). count x (s .window)) e in
     let less = stays-light (count i (s .window)) (largestCount s) (omega (arith, same)) away in
     omega (arith, same, less)
+
+-- a table where the arriving request of client id can join, after another left or as it was: what the join asks, and what it is to the arrival
+pub record Arriving (q : ℕ) (t : List ℕ) (id : ℕ) (u : List ℕ) (c : code.Choice) : Type 0 where
+  pub asks : {at : Sought} {n : ℕ} → Seeks q t id at → n ≡ countOf (plain (picture t)) id
+      → Ready q u × ((Found (orderWords (regions q u) .id) (clientRows (picture u)) id (at .row) × Home q id at) × ((n ≡ countOf (plain (picture u)) id) × (1 ≤ length (picture u .freeItems))))
+  pub told : c ≡ asChoice (choice (limitsOf (picture t)) (plain (picture t)) id)
+  pub joins : (ticket : ℕ) → join (picture u) id ticket ≡ arrived (picture t) id ticket
+
+pub arriving-so : {q : ℕ} {t : List ℕ} {id : ℕ} {u v : List ℕ} {c d : code.Choice} → u ≡ v → c ≡ d → Arriving q t id v d → Arriving q t id u c
+arriving-so {q} {t} {id} {v = v} {c} e l r = subst (λ (x : List ℕ). Arriving q t id x c) (sym e) (subst (Arriving q t id v) (sym l) r)
 
 module _ {q : ℕ} {t : List ℕ} (y : Ready q t) (h : 1 ≤ length (picture t .window)) where
   abbrev P : Picture
@@ -85,17 +97,30 @@ module _ {q : ℕ} {t : List ℕ} (y : Ready q t) (h : 1 ≤ length (picture t .
         e ∙ sym (count-without id (heaviestClient (plain P)) (not-heaviest (plain P) id away) (plain P .window))
         ∙ ap (λ (s : Waiting). countOf s id) (sym (ap plain is ∙ evict-step P (ready-right y) h .plain))
 
-    -- what the request that joins asks
-    pub still-asks : {at : Sought} {n : ℕ} → Seeks q t id at → n ≡ countOf (plain P) id
-        → Ready q a × ((Found (orderWords (regions q a) .id) (clientRows (picture a)) id (at .row) × Home q id at) × ((n ≡ countOf (plain (picture a)) id) × (1 ≤ length (picture a .freeItems))))
-    still-asks s e =
-        (ready, ((still-found (ready-found y s), s .home), (still-counted e, then-room gone y (evict-step P (ready-right y) h) drawn)))
+    pub still-arriving : {x : Request} → full (limitsOf P) (plain P) ≡ true → x ≡ asStruct (requestOf (P .clients) gone) → Arriving q t id a (choices.Evicted x)
+    still-arriving f told =
+        let j = evict-step P (ready-right y) h in
+        let c = choice-evicted (limitsOf P) (plain P) id f away in
+        record {
+          asks = λ s e. (ready, ((still-found (ready-found y s), s .home), (still-counted e, then-room gone y j drawn)));
+          told = ap choices.Evicted (told ∙ ap asStruct (evicted-request P (ready-right y) h)) ∙ sym (ap asChoice c);
+          joins = λ ticket. ap (λ (J : Picture). join J id ticket) is ∙ sym (arrived-by P id ticket c);
+        }
 
-    -- and what the arrival comes to
-    pub still-arrives : {x : Request} {u : List ℕ} (ticket : ℕ) → choice (limitsOf P) (plain P) id ≡ evicted (newest (heaviestClient (plain P)) (plain P .window))
-        → x ≡ asStruct (requestOf (P .clients) gone) → u ≡ draw (join (picture a) id ticket)
-        → (choices.Evicted x ≡ asChoice (choice (limitsOf P) (plain P) id)) × (u ≡ draw (arrived P id ticket))
-    still-arrives ticket c told d = (
-      ap choices.Evicted (told ∙ ap asStruct (evicted-request P (ready-right y) h)) ∙ sym (ap asChoice c),
-      then-joined gone y (evict-step P (ready-right y) h) drawn id ticket d ∙ ap draw (sym (arrived-by P id ticket c)),
-    )
+-- where a place is free nobody has to leave
+pub open-arriving : {q : ℕ} {t : List ℕ} → Ready q t → (id : ℕ) → full (limitsOf (picture t)) (plain (picture t)) ≡ false → Arriving q t id t choices.Joined
+open-arriving {t = t} y id f =
+    let c = choice-joined (limitsOf (picture t)) (plain (picture t)) id f in
+    record {
+      asks = λ s e. (y, ((ready-found y s, s .home), (e, open-room (picture t) (ready-right y) f)));
+      told = sym (ap asChoice c);
+      joins = λ ticket. sym (arrived-by (picture t) id ticket c);
+    }
+
+-- the arriving client is turned away
+pub turned-stays : {q : ℕ} {t : List ℕ} → Ready q t → (id ticket : ℕ) → full (limitsOf (picture t)) (plain (picture t)) ≡ true
+    → turnedAway true (count id (plain (picture t) .window)) (largestCount (plain (picture t))) ≡ true
+    → (choices.Turned ≡ asChoice (choice (limitsOf (picture t)) (plain (picture t)) id)) × (t ≡ draw (arrived (picture t) id ticket))
+turned-stays {t = t} y id ticket f a =
+    let c = choice-turned (limitsOf (picture t)) (plain (picture t)) id f a in
+    (sym (ap asChoice c), ready-drawn y ∙ ap draw (sym (arrived-by (picture t) id ticket c)))

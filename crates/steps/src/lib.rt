@@ -102,48 +102,34 @@ pub fn arrive(t: &mut [u32], q: usize, s: &[u32; 1024], id: u32, ticket: Ticket)
 {
     let at = lookup::find(t, q, s, id);
     let n = questions::count_in(t, q, at.row);
-    if !full(t, q) {
-        join(t, q, at, n, id, ticket);
-        return Choice::Joined;
+    let mut choice = Choice::Joined;
+    if full(t, q) {
+        let c = table::header(t, q, LinkedTable::HEAVIEST_AT);
+        let m = table::client(t, q, c, LinkedTable::COUNT);
+        if turned_away(n, m) {
+            return Choice::Turned;
+        }
+        let r = window::newest(t, q, c);
+        choice = Choice::Evicted(leave(t, q, s, c, m, r));
     }
-    let c = table::header(t, q, LinkedTable::HEAVIEST_AT);
-    let m = table::client(t, q, c, LinkedTable::COUNT);
-    if turned_away(n, m) {
-        return Choice::Turned;
-    }
-    let r = window::newest(t, q, c);
-    let gone = leave(t, q, s, c, m, r);
     // the client that lost a request is another one, so what was found of this one is still right
     join(t, q, at, n, id, ticket);
-    Choice::Evicted(gone)
+    choice
 }
 
-// A request joins, its client being sought first.
-fn take_in(t: &mut [u32], q: usize, s: &[u32; 1024], id: u32, ticket: Ticket)
-    requires { ⌜ Ready q (now t) ⌝ }
-    requires { ⌜ IsSpread (now s) ⌝ }
-    requires { ⌜ 1 ≤ length (picture (now t) .freeItems) ⌝ }
-    ensures { λ _. ⌜ now (t .exit) ≡ draw (steps.join (picture (now (t .entry))) id ticket) ⌝ }
-{
-    let at = lookup::find(t, q, s, id);
-    let n = questions::count_in(t, q, at.row);
-    join(t, q, at, n, id, ticket);
-}
-
-// Slide: where the window is full, the front request leaves first; then the new one joins.
+// Slide: where the window is full, the front request leaves first; then the new one arrives, and joins, for there is room.
 pub fn slide(t: &mut [u32], q: usize, s: &[u32; 1024], id: u32, ticket: Ticket) -> Left
     requires { ⌜ Ready q (now t) ⌝ }
     requires { ⌜ IsSpread (now s) ⌝ }
     ensures reply { λ x. ⌜ x ≡ asLeft (history.slideLeft (limitsOf (picture (now (t .entry)))) (plain (picture (now (t .entry))))) ⌝ }
     ensures words { λ _. ⌜ now (t .exit) ≡ draw (steps.slid (picture (now (t .entry))) id ticket) ⌝ }
 {
-    if !full(t, q) {
-        take_in(t, q, s, id, ticket);
-        return Left::Nothing;
+    let mut left = Left::Nothing;
+    if full(t, q) {
+        left = Left::One(pass(t, q, s));
     }
-    let gone = pass(t, q, s);
-    take_in(t, q, s, id, ticket);
-    Left::One(gone)
+    arrive(t, q, s, id, ticket);
+    left
 }
 
 // Serve: the front request leaves and is the reply.

@@ -1,9 +1,6 @@
 -- A fact of each number below n, and so of every word of the header or of a row, from the same of each word by its name.
 use Prim.Native.Nat.{ℕ, zero, suc, _+_, _<_}
-use mathlib.Core.Path.{_≡_, subst}
 use native.Mathlib.Nat.{not-suc-le-zero, le-of-suc-le-suc}
-use native.Mathlib.Decide.{decLt}
-use native.Mathlib.Omega.{arith}
 use Rattle.table.specs.Kind as kind
 
 abbrev pub Each : ℕ → (ℕ → Type 0) → Type 0

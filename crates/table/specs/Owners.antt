@@ -1,7 +1,7 @@
 -- Which layer keeps which words: no other layer writes them. What a layer promises speaks of its own words alone, so a step of another layer leaves it as it was by computing.
 use mathlib.Core.Bool.{cond}
 use mathlib.Core.List.{List, [], _∷_}
-use Prim.Native.Nat.{ℕ, zero, suc, _+_}
+use Prim.Native.Nat.{ℕ, zero, suc}
 use lib.Dec.{eqb}
 use Rattle.table.specs.Kind as kind
 use Rattle.table.specs.Regions.{Regions}
