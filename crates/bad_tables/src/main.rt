@@ -1,20 +1,33 @@
-// Damages a table in many ways, a line for each: its name, the numbers that arrive, slide, serve, run, heaviest, lightest,
-// count, oldest and newest give, and how many words of the lent slice, beyond it and of the output differ afterwards.
-// Rows are numbered from 0 to 5: row 6 is the first that there is not.
-mod free;
-mod header;
+// Every call on tables that are damaged, short, or sound in unusual ways, a line for each; then lay-out and carve on all kinds of Q and room.
+mod damage;
 mod judge;
 mod room;
-mod rows;
-mod several;
-mod sound;
-mod words;
+
+// A line of one of the two files.
+fn line(s: &[u8], room: bool) {
+    if room {
+        room::line(s);
+    } else {
+        damage::line(s);
+    }
+}
+
+fn lines(s: &[u8], room: bool) {
+    let mut at = 0;
+    while at < s.len() {
+        let end = report::find(s, at, b'\n');
+        line(&s[at..end], room);
+        at = end + 1;
+    }
+}
+
+fn file(path: &[u8], room: bool) {
+    let mut text = io::large_buffer();
+    let n = report::load(path, &mut text);
+    lines(&text[..n], room);
+}
 
 fn main() {
-    header::all();
-    rows::all();
-    free::all();
-    several::all();
-    sound::all();
-    room::all();
+    file(b"damage.txt", false);
+    file(b"room.txt", true);
 }

@@ -1,8 +1,11 @@
-// The batch printer on standard input. One byte more than it accepts is read, to notice over-long input.
+// The batch printer on standard input. One byte more than it takes is read, to notice over-long input.
 use libc::STDIN_FILENO;
+use libc::STDOUT_FILENO;
 
 fn main() {
-    let mut input = [0u8; printer::LONGEST + 1];
+    let mut input = [0u8; printer::INPUT + 1];
+    let mut page = [0u8; printer::PAGE];
     let n = io::read_full(STDIN_FILENO, &mut input);
-    printer::print(&input[..n]);
+    let m = printer::print(&input[..n], &mut page);
+    io::write_all(STDOUT_FILENO, &page[..m]);
 }

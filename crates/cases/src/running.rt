@@ -1,78 +1,43 @@
-// Budgets and stops, each on a fresh table.
+// Budgets, each on a fresh table.
 use crate::listing::Q;
 use crate::listing::SIZE;
-use run::Command;
+use answers::Ran;
+use answers::Report;
 
-// The bytes of the session's nine commands.
-const BYTES: usize = 9 * Command::BYTES;
-
-// Command i, whose id and ticket are small.
-fn put(s: &mut [u8; BYTES], i: usize, kind: u8, id: u8, ticket: u8) {
-    if i < 9 {
-        let at = i * Command::BYTES;
-        s[at] = kind;
-        s[at + 1] = id;
-        s[at + 5] = ticket;
-    }
+fn line(r: Report) {
+    report::word(b" stop ", r.stop);
+    report::field(b" done ", r.done);
+    report::field(b" joined ", r.joined);
+    report::field(b" evicted ", r.evicted);
+    report::field(b" passed ", r.passed);
+    report::field(b" served ", r.served);
+    report::field(b" turned ", r.turned);
+    report::field(b" idle ", r.idle);
 }
 
-fn session() -> [u8; BYTES] {
-    let mut s = [0u8; BYTES];
-    put(&mut s, 0, 1, 1, 10);
-    put(&mut s, 1, 1, 1, 11);
-    put(&mut s, 2, 1, 2, 12);
-    put(&mut s, 3, 1, 1, 13);
-    put(&mut s, 4, 1, 3, 14);
-    put(&mut s, 5, 1, 1, 15);
-    put(&mut s, 6, 1, 2, 16);
-    put(&mut s, 7, 2, 3, 17);
-    put(&mut s, 8, 3, 0, 0);
-    s
-}
-
-fn run(name: &[u8], commands: &[u8], budget: u64) {
+// Runs the commands of a printer's input, whatever its Q, with a budget.
+fn run(name: &[u8], budget: u64) {
     let mut t = [0u32; SIZE];
+    let mut input = [0u8; 128];
+    let n = report::load(name, &mut input);
     layout::lay_out(&mut t, Q);
     report::text(name);
-    report::text(b": ");
-    printer::line(limiter::run(&mut t, commands, budget));
-}
-
-fn part(name: &[u8], commands: &[u8], n: usize, budget: u64) {
-    if n <= commands.len() {
-        run(name, &commands[0..n], budget);
+    report::field(b", budget ", budget);
+    if 2 <= n {
+        match limiter::run(&mut t, &input[2..n], budget) {
+            Ran::Reported(r) => line(r),
+            Ran::Refused(x) => report::word(b" refused ", x.number),
+        }
     }
-}
-
-// The first n bytes.
-fn first(name: &[u8], commands: &[u8; BYTES], n: usize, budget: u64) {
-    part(name, commands, n, budget);
-}
-
-fn budgets() {
-    let s = session();
-    first(b"session, budget 9", &s, BYTES, 9);
-    first(b"session, budget 8", &s, BYTES, 8);
-    first(b"session, budget 0", &s, BYTES, 0);
-    first(b"session, budget 2^64-1", &s, BYTES, u64::MAX);
-    first(b"no bytes, budget 0", &s, 0, 0);
-    first(b"8 bytes", &s, 8, 9);
-    first(b"8 bytes, budget 0", &s, 8, 0);
-    first(b"3 commands and a byte", &s, 28, 9);
-}
-
-// Bytes that are no command.
-fn unknown() {
-    run(b"kind 0", &[0, 1, 0, 0, 0, 10, 0, 0, 0], 9);
-    run(b"kind 4", &[4, 1, 0, 0, 0, 10, 0, 0, 0], 9);
-    run(b"kind 4 of 8 bytes", &[4, 1, 0, 0, 0, 10, 0, 0], 9);
-    run(b"kind 4, budget 0", &[4, 1, 0, 0, 0, 10, 0, 0, 0], 0);
-    run(b"serve with ticket 5", &[3, 0, 0, 0, 0, 5, 0, 0, 0], 9);
-    run(b"serve with id 2^24", &[3, 0, 0, 0, 1, 0, 0, 0, 0], 9);
-    run(b"serve, nobody waits", &[3, 0, 0, 0, 0, 0, 0, 0, 0], 9);
+    report::text(b"\n");
 }
 
 pub fn all() {
-    budgets();
-    unknown();
+    run(b"session", 9);
+    run(b"session", 8);
+    run(b"session", 0);
+    run(b"session", u64::MAX);
+    run(b"no_command", 0);
+    run(b"cut_command", 0);
+    run(b"bad_kind", 0);
 }

@@ -1,6 +1,6 @@
 -- Every output of the printer fits its buffer.
 use mathlib.Core.Bool.{Bool, true, false, cond}
-use mathlib.Core.List.{List, _++_, reverse}
+use mathlib.Core.List.{List, reverse}
 use mathlib.Core.Path.{_≡_, refl}
 use Prim.Native.Nat.{ℕ, _≤_, _<_}
 use native.Mathlib.Omega.{arith}
@@ -12,7 +12,7 @@ use Rattle.rules.specs.History.{Waiting, nobody, limits}
 use Rattle.rules.specs.Run.{carried, after}
 use Rattle.rules.proofs.Choose.{either-way}
 use Rattle.rules.proofs.Decide.{_&_, leb-decides, range-decides}
-use Rattle.printed.specs.Printed.{mostBytes, mostPlaces, budget, inRange, placesIn, commandsIn, refused, report, clients, longest, printed}
+use Rattle.printed.specs.Printed.{mostBytes, mostPlaces, budget, inRange, placesIn, commandsIn, refused, report, clients, session, longest, printed}
 use Rattle.printed.proofs.Waits.{Bytes, bytes-drop, carried-low, everyone, clients-most, clients-low}
 use Rattle.printed.proofs.Report.{report-small}
 use Rattle.printed.proofs.Lines.{refused-line, report-line, client-lines}
@@ -41,7 +41,7 @@ short s h =
     either-way Fits (ltb mostBytes (length s)) (refused-fits _ (omega arith))
     (either-way Fits (ltb (length s) 2) (refused-fits _ (omega arith)) (go (inRange (placesIn s)) refl))
   where
-    go : (b : Bool) → inRange (placesIn s) ≡ b → Fits (cond b (report (placesIn s) (commandsIn s) ++ clients (placesIn s) (commandsIn s)) (refused number.outOfRange))
+    go : (b : Bool) → inRange (placesIn s) ≡ b → Fits (cond b (session (placesIn s) (commandsIn s)) (refused number.outOfRange))
     go true e =
         rw length-append (omega (arith, report-short (placesIn s) (commandsIn s), clients-short (placesIn s) (commandsIn s) e (bytes-drop 2 s h)))
     go false e = refused-fits _ (omega arith)

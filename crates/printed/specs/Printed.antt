@@ -82,12 +82,16 @@ clientLines (i ∷ n ∷ ps) = filled clientForm (i ∷ n ∷ []) ++ clientLines
 abbrev pub clients : ℕ → List ℕ → List ℕ
 clients q s = clientLines (heaviest q (after (limits q) nobody (carried budget s)))
 
+-- the report, and then the clients
+abbrev pub session : ℕ → List ℕ → List ℕ
+session q s = report q s ++ clients q s
+
 -- what is printed: the report and the clients; or a refusal, of an over-long input, of one without Q, of a window that it does not take
 unfoldable pub printed : List ℕ → List ℕ
 printed s =
     cond (ltb mostBytes (length s)) (refused number.overlong)
     (cond (ltb (length s) 2) (refused number.cut)
-    (cond (inRange (placesIn s)) (report (placesIn s) (commandsIn s) ++ clients (placesIn s) (commandsIn s)) (refused number.outOfRange)))
+    (cond (inRange (placesIn s)) (session (placesIn s) (commandsIn s)) (refused number.outOfRange)))
 
 -- bytes enough for it
 abbrev pub longest : ℕ

@@ -1,5 +1,8 @@
-// What the programs print with, and how they compare words.
+// What the programs read and print with, and how they compare words.
 ghost use mathlib.Core.Path.{_≡_};
+ghost use Prim.Native.Nat.{_≤_};
+ghost use lib.ListN.{length};
+ghost use Rattle.io.specs.Counts.{Counts};
 ghost use Rattle.table.specs.Regions.{altered};
 use libc::STDOUT_FILENO;
 
@@ -17,6 +20,15 @@ pub fn word(name: &[u8], x: u32) {
     field(name, x as u64);
 }
 
+// Words, a blank before each.
+pub fn words(t: &[u32]) {
+    let mut i = 0;
+    while i < t.len() {
+        word(b" ", t[i]);
+        i += 1;
+    }
+}
+
 // In how many places the words of the two differ.
 pub fn differ(a: &[u32], b: &[u32]) -> usize
     ensures { λ r. ⌜ r ≡ altered (now (a .entry)) (now (b .entry)) ⌝ }
@@ -32,20 +44,67 @@ pub fn differ(a: &[u32], b: &[u32]) -> usize
     n
 }
 
-// Pair i of a listing, id and count, each after a text of its own, and a text at the end.
-fn pair(out: &[u32], i: usize, id: &[u8], count: &[u8], end: &[u8]) {
-    if i < out.len() / 2 {
-        word(id, out[2 * i]);
-        word(count, out[2 * i + 1]);
-        text(end);
+// Reads a file, as far as it has room.
+pub fn load(path: &[u8], buf: &mut [u8]) -> usize
+    ensures { λ r. ⌜ Counts r (now (buf .exit)) ⌝ }
+{
+    let fd = os::open_read(path);
+    let n = io::read_full(fd, buf);
+    libc::close(fd);
+    n
+}
+
+// The first place from `at` on where b stands, or the end.
+pub fn find(s: &[u8], at: usize, b: u8) -> usize
+    requires { ⌜ at ≤ length (now s) ⌝ }
+    ensures { λ r. ⌜ (at ≤ r) × (r ≤ length (now (s .entry))) ⌝ }
+{
+    let mut i = at;
+    while i < s.len() && s[i] != b {
+        i += 1;
+    }
+    i
+}
+
+fn digit(v: u64, b: u8) -> u64 {
+    if v < 1_000_000_000_000 && b'0' <= b && b <= b'9' {
+        v * 10 + (b - b'0') as u64
+    } else {
+        u64::MAX
     }
 }
 
-// The first n pairs of a listing.
-pub fn pairs(out: &[u32], n: usize, id: &[u8], count: &[u8], end: &[u8]) {
+// The number that the digits are; the largest where there are more than thirteen, or another byte.
+pub fn number(s: &[u8]) -> u64 {
+    let mut v: u64 = 0;
     let mut i = 0;
-    while i < n {
-        pair(out, i, id, count, end);
+    while i < s.len() {
+        v = digit(v, s[i]);
         i += 1;
+    }
+    v
+}
+
+// A number as a word: 0 where it is too large for one.
+pub fn narrow(n: u64) -> u32 {
+    if n <= 0xFFFF_FFFF { n as u32 } else { 0 }
+}
+
+// A number, and where it ends.
+pub struct Token {
+    pub number: u64,
+    pub end: usize,
+}
+
+// The number behind the blank at `at`, 0 where nothing is there.
+pub fn next(s: &[u8], at: usize) -> Token {
+    if s.len() <= at {
+        return Token { number: 0, end: at };
+    }
+    let from = at + 1;
+    let end = find(s, from, b' ');
+    Token {
+        number: number(&s[from..end]),
+        end,
     }
 }
