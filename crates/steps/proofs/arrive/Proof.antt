@@ -78,11 +78,11 @@ arriving j =
     let p = d .before .before .before .pre in
     ⊎-elim
     (λ x.
-        let (i, _, h, _, m, a, z, _, e, _, l, _, _, u, g) = x in
-        let some = some-wait (p .0) (f .full .ensures) (i .taken) in
-        let left = waits-left (heavy-newest (p .0) some (h .ensures) (e .ensures)) (l .ensures .0) (l .ensures .1) in
-        let stays = away (a .ensures) (n .count-in .ensures _ (ready-found (p .0) (d .find .ensures))) (heavy-count (p .0) some (h .ensures) (m .ensures)) (z .left) in
-        arriving-so u g (still-arriving (p .0) some (left .1) _ stays (sym (f .full .ensures) ∙ i .taken) (left .0)))
+    let (i, _, h, _, m, a, z, _, e, _, l, _, _, u, g) = x in
+    let some = some-wait (p .0) (f .full .ensures) (i .taken) in
+    let left = waits-left (heavy-newest (p .0) some (h .ensures) (e .ensures)) (l .ensures .0) (l .ensures .1) in
+    let stays = away (a .ensures) (n .count-in .ensures _ (ready-found (p .0) (d .find .ensures))) (heavy-count (p .0) some (h .ensures) (m .ensures)) (z .left) in
+    arriving-so u g (still-arriving (p .0) some (left .1) _ stays (sym (f .full .ensures) ∙ i .taken) (left .0)))
     (λ x. let (i, u, g) = x in arriving-so u g (open-arriving (p .0) _ (sym (f .full .ensures) ∙ i .left)))
     (j .if1 .came)
 
