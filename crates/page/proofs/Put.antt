@@ -72,10 +72,6 @@ module _ {out : List ℕ} {at : ℕ} {s out′ : List ℕ} {r : ℕ} (p : Put ou
         place = omega (arith, length-append s t);
       }
 
-  -- what stands before the place after it
-  pub put-take : take r out′ ≡ take at out ++ s
-  put-take = rw (p .bytes, p .place) (take-written at s out (omega arith))
-
 -- a byte that is stored
 pub put-one : {out : List ℕ} {at d : ℕ} → Room out at (d ∷ []) → Put out at (d ∷ []) (set out at d) (at + 1)
 put-one {out} {at} {d} h = record { room = h; bytes = written-one at d out (omega arith); place = omega arith }

@@ -8,7 +8,7 @@ use Rattle.table.specs.Regions.{at}
 use Rattle.table.proofs.Draw.{at-other}
 use Rattle.rules.specs.Rows.{headOr, lastOr, In, NotIn, Distinct, Below}
 use Rattle.rules.specs.Linked.{Link, Links, Run, Linked, Chain}
-use Rattle.rules.proofs.Rows.{not-both, notin, other, head-in, last-in, in-below, past}
+use Rattle.rules.proofs.Rows.{not-both, notin, other, last-in, in-below, past}
 
 pub run-head : (b o : ℕ → ℕ) (p h : ℕ) (xs : List ℕ) (n l : ℕ) → Run b o p h xs n l → h ≡ headOr n xs
 run-head b o p h [] n l r = r .0
@@ -18,10 +18,7 @@ pub run-last : (b o : ℕ → ℕ) (p h : ℕ) (xs : List ℕ) (n l : ℕ) → R
 run-last b o p h [] n l r = r .1
 run-last b o p h (x ∷ xs) n l r = run-last b o x (o x) xs n l (r .2)
 
--- the ends of a list are links
-pub head-link : (q : ℕ) (xs : List ℕ) → Below q xs → Link q (headOr kind.none xs)
-head-link q xs b n = ⊎-elim (λ e. absurd (n e)) (λ i. in-below q xs b (headOr kind.none xs) i) (head-in kind.none xs)
-
+-- the last row of a list, or none, is a link
 pub last-link : (q : ℕ) (xs : List ℕ) → Below q xs → Link q (lastOr kind.none xs)
 last-link q xs b n = ⊎-elim (λ e. absurd (n e)) (λ i. in-below q xs b (lastOr kind.none xs) i) (last-in kind.none xs)
 

@@ -5,18 +5,6 @@ use borrow.Author.Needs.{needs}
 use Rattle.answers.proofs.offered_arrive.Statement.{statement}
 use Rattle.answers.proofs.offered_arrive.Tie as tie
 
-enum-told : tie.Need-enum-told
-enum-told c = search needs
-
-enum-known-c : tie.Need-enum-known-c
-enum-known-c c = search needs
-
-enum-told-2 : tie.Need-enum-told-2
-enum-told-2 c = search needs
-
-returns : tie.Need-returns
-returns c = search needs
-
 returns-2 : tie.Need-returns-2
 returns-2 c = ap arrivedOf (sym (c .before .c .given .1))
 
@@ -25,4 +13,4 @@ returns-3 c = search needs
 
 pub offered-arrive-spec : {M : Type 1} → statement M
 offered-arrive-spec =
-    tie.close (tie.spec enum-told enum-known-c enum-told-2 returns returns-2 returns-3)
+    tie.close (tie.spec (λ c. search needs) (λ c. search needs) (λ c. search needs) (λ c. search needs) returns-2 returns-3)

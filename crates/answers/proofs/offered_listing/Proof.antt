@@ -7,15 +7,6 @@ use borrow.Author.Needs.{needs}
 use Rattle.answers.proofs.offered_listing.Statement.{statement}
 use Rattle.answers.proofs.offered_listing.Tie as tie
 
-enum-known-l : tie.Need-enum-known-l
-enum-known-l c = search needs
-
-enum-told : tie.Need-enum-told
-enum-told c = search needs
-
-of-requires : tie.Need-of-requires
-of-requires c κs = search needs
-
 returns : tie.Need-returns
 returns c = ap listedOf (sym (c .before .l .given .1))
 
@@ -23,4 +14,4 @@ returns-2 : tie.Need-returns-2
 returns-2 c = let e : c .before .before .before .args .l ≡ listings.NoRoom = search needs in ap listed.Refused (c .of .ensures) ∙ ap listedOf (sym e)
 
 pub offered-listing-spec : {M : Type 1} → statement M
-offered-listing-spec = tie.close (tie.spec enum-known-l enum-told of-requires returns returns-2)
+offered-listing-spec = tie.close (tie.spec (λ c. search needs) (λ c. search needs) (λ c κs. search needs) returns returns-2)

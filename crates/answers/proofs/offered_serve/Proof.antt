@@ -7,15 +7,6 @@ use borrow.Author.Needs.{needs}
 use Rattle.answers.proofs.offered_serve.Statement.{statement}
 use Rattle.answers.proofs.offered_serve.Tie as tie
 
-enum-told : tie.Need-enum-told
-enum-told c = search needs
-
-of-requires : tie.Need-of-requires
-of-requires c κs = search needs
-
-enum-known-l : tie.Need-enum-known-l
-enum-known-l c = search needs
-
 returns : tie.Need-returns
 returns c = let e : c .before .before .before .args .l ≡ lefts.Nothing = search needs in ap served.Refused (c .of .ensures) ∙ ap servedOf (sym e)
 
@@ -23,4 +14,4 @@ returns-2 : tie.Need-returns-2
 returns-2 c = ap servedOf (sym (c .before .l .given .1))
 
 pub offered-serve-spec : {M : Type 1} → statement M
-offered-serve-spec = tie.close (tie.spec enum-told of-requires enum-known-l returns returns-2)
+offered-serve-spec = tie.close (tie.spec (λ c. search needs) (λ c κs. search needs) (λ c. search needs) returns returns-2)

@@ -7,15 +7,6 @@ use borrow.Author.Needs.{needs}
 use Rattle.answers.proofs.offered_ticket.Statement.{statement}
 use Rattle.answers.proofs.offered_ticket.Tie as tie
 
-enum-known-o : tie.Need-enum-known-o
-enum-known-o c = search needs
-
-enum-told : tie.Need-enum-told
-enum-told c = search needs
-
-of-requires : tie.Need-of-requires
-of-requires c κs = search needs
-
 returns : tie.Need-returns
 returns c = ap toldOf (sym (c .before .o .given .1))
 
@@ -23,4 +14,4 @@ returns-2 : tie.Need-returns-2
 returns-2 c = let e : c .before .before .before .args .o ≡ tickets.NoClient = search needs in ap told.Refused (c .of .ensures) ∙ ap toldOf (sym e)
 
 pub offered-ticket-spec : {M : Type 1} → statement M
-offered-ticket-spec = tie.close (tie.spec enum-known-o enum-told of-requires returns returns-2)
+offered-ticket-spec = tie.close (tie.spec (λ c. search needs) (λ c. search needs) (λ c κs. search needs) returns returns-2)

@@ -7,9 +7,6 @@ use Prim.Native.Nat.{_+_}
 use Rattle.day.proofs.sum.Statement.{statement}
 use Rattle.day.proofs.sum.Tie as tie
 
-sub-if1 : tie.Need-sub-if1
-sub-if1 c = search needs
-
 add-result : tie.Need-add-result
 add-result c = search needs
 
@@ -20,4 +17,4 @@ returns-2 : tie.Need-returns-2
 returns-2 c = let a = c .before .args .a in let b = c .before .args .b in simp (lt-leb (a + b) largest (omega arith))
 
 pub sum-spec : {M : Type 1} → statement M
-sum-spec = tie.close (tie.spec sub-if1 add-result returns returns-2)
+sum-spec = tie.close (tie.spec (λ c. search needs) add-result returns returns-2)

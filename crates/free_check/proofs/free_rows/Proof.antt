@@ -15,9 +15,6 @@ Inv-loop t q first n from width link past rest₀ at₀ rest at = Free q width l
 abbrev μ-loop : tie.MeasureT-loop
 μ-loop t q first n from width link past rest₀ at₀ rest at = rest
 
-cast-past : tie.Need-cast-past Inv-loop μ-loop
-cast-past c = search needs
-
 loop-holds : tie.Need-loop-holds Inv-loop μ-loop
 loop-holds c = Iff·rfl
 
@@ -25,9 +22,6 @@ returns : tie.Need-returns Inv-loop μ-loop
 returns c =
     let s = turn _ _ _ _ _ _ (c .before .before .loop .inv) (c .before .loop-test .taken) in
     tells-no (λ w. let h = s .1 w .0 .0 in omega arith)
-
-cast-row : tie.Need-cast-row Inv-loop μ-loop
-cast-row c = search needs
 
 mul-row : tie.Need-mul-row Inv-loop μ-loop
 mul-row c = omega (arith, row-fits (c .before .before .before .before .pre) (c .if1 .left))
@@ -53,12 +47,6 @@ mul-at c = omega (arith, row-fits (c .before .before .before .before .before .be
 shared-slice-read-at : tie.Need-shared-slice-read-at Inv-loop μ-loop
 shared-slice-read-at c = omega (arith, row-fits (c .before .before .before .before .before .before .before .pre) (c .before .before .before .if1 .left))
 
-sub-rest : tie.Need-sub-rest Inv-loop μ-loop
-sub-rest c = search needs
-
-loop-less : tie.Need-loop-less Inv-loop μ-loop
-loop-less c = search needs
-
 loop-again : tie.Need-loop-again Inv-loop μ-loop
 loop-again c =
     let b = c .before .before in
@@ -74,10 +62,10 @@ free-rows-spec =
     (tie.spec
     Inv-loop
     μ-loop
-    cast-past
+    (λ c. search needs)
     loop-holds
     returns
-    cast-row
+    (λ c. search needs)
     mul-row
     add-row
     blank-requires
@@ -85,7 +73,7 @@ free-rows-spec =
     add-at
     mul-at
     shared-slice-read-at
-    sub-rest
-    loop-less
+    (λ c. search needs)
+    (λ c. search needs)
     loop-again
     returns-3)

@@ -7,25 +7,10 @@ use Rattle.items_check.proofs.Means.{checked}
 use Rattle.items_check.proofs.check_items.Statement.{statement}
 use Rattle.items_check.proofs.check_items.Tie as tie
 
-header-requires : tie.Need-header-requires
-header-requires c κs = search needs
-
-cast-n : tie.Need-cast-n
-cast-n c = search needs
-
-window-requires : tie.Need-window-requires
-window-requires c κs = search needs
-
 returns : tie.Need-returns
 returns c =
     checked (search needs)
     (tells-no (λ p. ⊎-elim (λ w. omega (arith, p .few)) (λ w. refuted (w .1 .ensures) (w .2 .taken) (p .window)) (c .if1 .came)))
-
-header-requires-2 : tie.Need-header-requires-2
-header-requires-2 c κs = search needs
-
-free-rows-requires : tie.Need-free-rows-requires
-free-rows-requires c κs = search needs
 
 returns-2 : tie.Need-returns-2
 returns-2 c =
@@ -38,10 +23,10 @@ pub check-items-spec : {M : Type 1} → statement M
 check-items-spec =
     tie.close
     (tie.spec
-    header-requires
-    cast-n
-    window-requires
+    (λ c κs. search needs)
+    (λ c. search needs)
+    (λ c κs. search needs)
     returns
-    header-requires-2
-    free-rows-requires
+    (λ c κs. search needs)
+    (λ c κs. search needs)
     returns-2)

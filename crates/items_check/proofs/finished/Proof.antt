@@ -21,47 +21,14 @@ abbrev μ-loop : tie.MeasureT-loop
 returns : tie.Need-returns Inv-loop μ-loop
 returns c = tells-no (λ f. omega (arith, f .none))
 
-header-requires : tie.Need-header-requires Inv-loop μ-loop
-header-requires c κs = search needs
-
 returns-2 : tie.Need-returns-2 Inv-loop μ-loop
 returns-2 c = tells-no (λ f. omega (arith, f .back))
 
 loop-holds : tie.Need-loop-holds Inv-loop μ-loop
 loop-holds c = (search needs, wrong-first _)
 
-cast-own-ends : tie.Need-cast-own-ends Inv-loop μ-loop
-cast-own-ends c = search needs
-
-mul-own-ends : tie.Need-mul-own-ends Inv-loop μ-loop
-mul-own-ends c = search needs
-
-shared-slice-read-own-ends : tie.Need-shared-slice-read-own-ends Inv-loop μ-loop
-shared-slice-read-own-ends c = search needs
-
-mul-own-ends-2 : tie.Need-mul-own-ends-2 Inv-loop μ-loop
-mul-own-ends-2 c = search needs
-
-shared-slice-read-own-ends-2 : tie.Need-shared-slice-read-own-ends-2 Inv-loop μ-loop
-shared-slice-read-own-ends-2 c = search needs
-
-mul-own-ends-3 : tie.Need-mul-own-ends-3 Inv-loop μ-loop
-mul-own-ends-3 c = search needs
-
-shared-slice-read-own-ends-3 : tie.Need-shared-slice-read-own-ends-3 Inv-loop μ-loop
-shared-slice-read-own-ends-3 c = search needs
-
-own-ends-requires : tie.Need-own-ends-requires Inv-loop μ-loop
-own-ends-requires c κs = search needs
-
 add-wrong : tie.Need-add-wrong Inv-loop μ-loop
 add-wrong c = ⊎-elim (λ w. omega (arith, w .1)) (λ w. omega (arith, w .1)) (c .before .if3 .came)
-
-add-r : tie.Need-add-r Inv-loop μ-loop
-add-r c = search needs
-
-loop-less : tie.Need-loop-less Inv-loop μ-loop
-loop-less c = search needs
 
 loop-again : tie.Need-loop-again Inv-loop μ-loop
 loop-again c =
@@ -81,19 +48,19 @@ finished-spec =
     Inv-loop
     μ-loop
     returns
-    header-requires
+    (λ c κs. search needs)
     returns-2
     loop-holds
-    cast-own-ends
-    mul-own-ends
-    shared-slice-read-own-ends
-    mul-own-ends-2
-    shared-slice-read-own-ends-2
-    mul-own-ends-3
-    shared-slice-read-own-ends-3
-    own-ends-requires
+    (λ c. search needs)
+    (λ c. search needs)
+    (λ c. search needs)
+    (λ c. search needs)
+    (λ c. search needs)
+    (λ c. search needs)
+    (λ c. search needs)
+    (λ c κs. search needs)
     add-wrong
-    add-r
-    loop-less
+    (λ c. search needs)
+    (λ c. search needs)
     loop-again
     returns-3)

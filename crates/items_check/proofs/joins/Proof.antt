@@ -5,14 +5,8 @@ use borrow.Author.Needs.{needs}
 use Rattle.items_check.proofs.joins.Statement.{statement}
 use Rattle.items_check.proofs.joins.Tie as tie
 
-item-requires : tie.Need-item-requires
-item-requires c κs = search needs
-
 returns : tie.Need-returns
 returns c = tells-no (λ j. omega (arith, j .earlier))
-
-item-requires-2 : tie.Need-item-requires-2
-item-requires-2 c κs = search needs
 
 returns-2 : tie.Need-returns-2
 returns-2 c = tells-no (λ j. omega (arith, j .own))
@@ -21,4 +15,4 @@ returns-3 : tie.Need-returns-3
 returns-3 c = tells-equal _ _ (λ e. record { earlier = omega arith; own = omega arith; next = e }, λ j. j .next)
 
 pub joins-spec : {M : Type 1} → statement M
-joins-spec = tie.close (tie.spec item-requires returns item-requires-2 returns-2 returns-3)
+joins-spec = tie.close (tie.spec (λ c κs. search needs) returns (λ c κs. search needs) returns-2 returns-3)

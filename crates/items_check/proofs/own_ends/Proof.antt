@@ -5,12 +5,6 @@ use borrow.Author.Needs.{needs}
 use Rattle.items_check.proofs.own_ends.Statement.{statement}
 use Rattle.items_check.proofs.own_ends.Tie as tie
 
-client-requires : tie.Need-client-requires
-client-requires c κs = search needs
-
-client-requires-2 : tie.Need-client-requires-2
-client-requires-2 c κs = search needs
-
 returns : tie.Need-returns
 returns c = tells-no (λ l. omega (arith, l .client (λ z. omega (arith, l .nobody z)) .count))
 
@@ -28,8 +22,8 @@ pub own-ends-spec : {M : Type 1} → statement M
 own-ends-spec =
     tie.close
     (tie.spec
-    client-requires
-    client-requires-2
+    (λ c κs. search needs)
+    (λ c κs. search needs)
     returns
     returns-2
     returns-3

@@ -4,9 +4,6 @@ use borrow.Author.Needs.{needs}
 use Rattle.layout.proofs.carve.Statement.{statement}
 use Rattle.layout.proofs.carve.Tie as tie
 
-part-of-requires : tie.Need-part-of-requires
-part-of-requires c κs = search needs
-
 mul-pool : tie.Need-mul-pool
 mul-pool c = let i = inside _ _ _ _ (c .part-of .ensures) in search needs
 
@@ -27,4 +24,4 @@ returns c =
 
 pub carve-spec : {M : Type 1} → statement M
 carve-spec =
-    tie.close (tie.spec part-of-requires mul-pool sub-result part-pool-start part-pool-end returns)
+    tie.close (tie.spec (λ c κs. search needs) mul-pool sub-result part-pool-start part-pool-end returns)

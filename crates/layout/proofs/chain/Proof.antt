@@ -18,33 +18,12 @@ abbrev μ-loop : tie.MeasureT-loop
 loop-holds : tie.Need-loop-holds Inv-loop μ-loop
 loop-holds c = (omega arith, search needs, c .before .pre .1 ∙ chain-none _)
 
-cast-loop : tie.Need-cast-loop Inv-loop μ-loop
-cast-loop c = search needs
-
-next-free-requires : tie.Need-next-free-requires Inv-loop μ-loop
-next-free-requires c κs = search needs
-
-set-item-requires : tie.Need-set-item-requires Inv-loop μ-loop
-set-item-requires c κs = search needs
-
-set-client-requires : tie.Need-set-client-requires Inv-loop μ-loop
-set-client-requires c κs = search needs
-
-add-r : tie.Need-add-r Inv-loop μ-loop
-add-r c = search needs
-
-loop-less : tie.Need-loop-less Inv-loop μ-loop
-loop-less c = search needs
-
 loop-again : tie.Need-loop-again Inv-loop μ-loop
 loop-again c =
     let client = c .before .before in
     let item = client .before .before .before .before in
     let n = item .before .before in
     (omega arith, search needs, chain-on _ _ _ (n .next-free .ensures) (item .set-item .ensures .0) (client .set-client .ensures .0) (n .before .before .loop .inv .2))
-
-same-length : tie.Need-same-length Inv-loop μ-loop
-same-length c = search needs
 
 returns : tie.Need-returns Inv-loop μ-loop
 returns c =
@@ -59,12 +38,12 @@ chain-spec =
     Inv-loop
     μ-loop
     loop-holds
-    cast-loop
-    next-free-requires
-    set-item-requires
-    set-client-requires
-    add-r
-    loop-less
+    (λ c. search needs)
+    (λ c κs. search needs)
+    (λ c κs. search needs)
+    (λ c κs. search needs)
+    (λ c. search needs)
+    (λ c. search needs)
     loop-again
-    same-length
+    (λ c. search needs)
     returns)

@@ -4,30 +4,6 @@ use borrow.Author.Needs.{needs}
 use Rattle.layout.proofs.head.Statement.{statement}
 use Rattle.layout.proofs.head.Tie as tie
 
-set-header-requires : tie.Need-set-header-requires
-set-header-requires c κs = search needs
-
-cast-set-header : tie.Need-cast-set-header
-cast-set-header c = search needs
-
-set-header-requires-2 : tie.Need-set-header-requires-2
-set-header-requires-2 c κs = search needs
-
-set-header-requires-3 : tie.Need-set-header-requires-3
-set-header-requires-3 c κs = search needs
-
-set-header-requires-4 : tie.Need-set-header-requires-4
-set-header-requires-4 c κs = search needs
-
-set-header-requires-5 : tie.Need-set-header-requires-5
-set-header-requires-5 c κs = search needs
-
-set-header-requires-6 : tie.Need-set-header-requires-6
-set-header-requires-6 c κs = search needs
-
-same-length : tie.Need-same-length
-same-length c = search needs
-
 returns : tie.Need-returns
 returns c =
     let f = c .before .before in
@@ -47,12 +23,12 @@ pub head-spec : {M : Type 1} → statement M
 head-spec =
     tie.close
     (tie.spec
-    set-header-requires
-    cast-set-header
-    set-header-requires-2
-    set-header-requires-3
-    set-header-requires-4
-    set-header-requires-5
-    set-header-requires-6
-    same-length
+    (λ c κs. search needs)
+    (λ c. search needs)
+    (λ c κs. search needs)
+    (λ c κs. search needs)
+    (λ c κs. search needs)
+    (λ c κs. search needs)
+    (λ c κs. search needs)
+    (λ c. search needs)
     returns)

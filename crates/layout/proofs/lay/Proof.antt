@@ -5,18 +5,6 @@ use borrow.Author.Needs.{needs}
 use Rattle.layout.proofs.lay.Statement.{statement}
 use Rattle.layout.proofs.lay.Tie as tie
 
-clear-requires : tie.Need-clear-requires
-clear-requires c κs = search needs
-
-chain-requires : tie.Need-chain-requires
-chain-requires c κs = search needs
-
-head-requires : tie.Need-head-requires
-head-requires c κs = search needs
-
-same-length : tie.Need-same-length
-same-length c = search needs
-
 returns : tie.Need-returns
 returns c =
     let h = c .before .before in
@@ -24,4 +12,4 @@ returns c =
     h .head .ensures .drawn _ (k .chain .ensures) ∙ laid _ (search needs)
 
 pub lay-spec : {M : Type 1} → statement M
-lay-spec = tie.close (tie.spec clear-requires chain-requires head-requires same-length returns)
+lay-spec = tie.close (tie.spec (λ c κs. search needs) (λ c κs. search needs) (λ c κs. search needs) (λ c. search needs) returns)

@@ -8,9 +8,6 @@ use borrow.Author.Needs.{needs}
 use Rattle.layout.proofs.lay_out.Statement.{statement}
 use Rattle.layout.proofs.lay_out.Tie as tie
 
-in-range-requires : tie.Need-in-range-requires
-in-range-requires c κs = search needs
-
 returns : tie.Need-returns
 returns c = out-of-range _ _ (sym (c .before .in-range .ensures) ∙ not-true _ (c .if1 .taken))
 
@@ -35,9 +32,6 @@ lay-requires c κs =
     let i = z .before in
     sized-part _ _ (sym (i .before .in-range .ensures) ∙ not-false _ (i .if1 .left)) _ (z .size .ensures) (c .before .if2 .left)
 
-same-length : tie.Need-same-length
-same-length c = search needs
-
 returns-3 : tie.Need-returns-3
 returns-3 c =
     let l = c .before .before in
@@ -49,12 +43,12 @@ pub lay-out-spec : {M : Type 1} → statement M
 lay-out-spec =
     tie.close
     (tie.spec
-    in-range-requires
+    (λ c κs. search needs)
     returns
     size-requires
     returns-2
     slice-relend-prefix-lay
     slice-aggregate-lay
     lay-requires
-    same-length
+    (λ c. search needs)
     returns-3)

@@ -4,12 +4,6 @@ use borrow.Author.Needs.{needs}
 use Rattle.layout.proofs.next_free.Statement.{statement}
 use Rattle.layout.proofs.next_free.Tie as tie
 
-add-if1 : tie.Need-add-if1
-add-if1 c = search needs
-
-add-result : tie.Need-add-result
-add-result c = search needs
-
 returns : tie.Need-returns
 returns c = rw (lt-ltb _ _ (c .if1 .taken))
 
@@ -17,4 +11,4 @@ returns-2 : tie.Need-returns-2
 returns-2 c = rw (le-ltb _ _ (c .if1 .left))
 
 pub next-free-spec : {M : Type 1} → statement M
-next-free-spec = tie.close (tie.spec add-if1 add-result returns returns-2)
+next-free-spec = tie.close (tie.spec (λ c. search needs) (λ c. search needs) returns returns-2)

@@ -11,9 +11,6 @@ use borrow.Author.Needs.{needs}
 use Rattle.layout.proofs.part_of.Statement.{statement}
 use Rattle.layout.proofs.part_of.Tie as tie
 
-in-range-requires : tie.Need-in-range-requires
-in-range-requires c κs = search needs
-
 returns : tie.Need-returns
 unfolding partOf
 returns c =
@@ -48,4 +45,4 @@ returns-3 c =
 
 pub part-of-spec : {M : Type 1} → statement M
 part-of-spec =
-    tie.close (tie.spec in-range-requires returns size-requires sub-rest returns-2 add-to returns-3)
+    tie.close (tie.spec (λ c κs. search needs) returns size-requires sub-rest returns-2 add-to returns-3)

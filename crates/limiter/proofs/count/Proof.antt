@@ -8,18 +8,6 @@ use Rattle.limiter.proofs.Calls.{counting}
 use Rattle.limiter.proofs.count.Statement.{statement}
 use Rattle.limiter.proofs.count.Tie as tie
 
-table-requires : tie.Need-table-requires
-table-requires c κs = search needs
-
-of-requires : tie.Need-of-requires
-of-requires c κs = search needs
-
-enum-known-r : tie.Need-enum-known-r
-enum-known-r c = search needs
-
-enum-known-q : tie.Need-enum-known-q
-enum-known-q c = search needs
-
 size-requires : tie.Need-size-requires
 size-requires c κs = let o = c .before in part-most _ (sym (o .q .given .1) ∙ o .before .before .of .ensures)
 
@@ -39,10 +27,10 @@ pub count-spec : {M : Type 1} → statement M
 count-spec =
     tie.close
     (tie.spec
-    table-requires
-    of-requires
-    enum-known-r
-    enum-known-q
+    (λ c κs. search needs)
+    (λ c κs. search needs)
+    (λ c. search needs)
+    (λ c. search needs)
     size-requires
     slice-aggregate-count
     count-requires

@@ -13,18 +13,6 @@ use Rattle.limiter.proofs.Calls.{listingOf}
 use Rattle.limiter.proofs.lightest.Statement.{statement}
 use Rattle.limiter.proofs.lightest.Tie as tie
 
-table-requires : tie.Need-table-requires
-table-requires c κs = search needs
-
-of-requires : tie.Need-of-requires
-of-requires c κs = search needs
-
-enum-known-r : tie.Need-enum-known-r
-enum-known-r c = search needs
-
-enum-known-q : tie.Need-enum-known-q
-enum-known-q c = search needs
-
 size-requires : tie.Need-size-requires
 size-requires c κs = let o = c .before in part-most _ (sym (o .q .given .1) ∙ o .before .before .of .ensures)
 
@@ -34,9 +22,6 @@ slice-aggregate-lightest c = let o = c .before .before .before in part-long _ (s
 lightest-requires : tie.Need-lightest-requires
 lightest-requires c κs = let z = c .before .before in let o = z .before .before in part-ready _ (sym (o .q .given .1) ∙ o .before .before .of .ensures) (z .size .ensures)
 
-offered-listing-requires : tie.Need-offered-listing-requires
-offered-listing-requires c κs = search needs
-
 returns : tie.Need-returns
 returns c =
     let o = c .before in
@@ -44,9 +29,6 @@ returns c =
     let a = o .before .before .before .before .before .before .before .args in
     let (reply, numbers) = call-refuses (listingOf (a .k) (length (a .out .now))) _ f in
     (reply, (numbers, refuses _ f (λ _. a .out .now) (listedWords history.lightest (a .k) (plain (lent (a .t .now))) (a .out .now))))
-
-same-length : tie.Need-same-length
-same-length c = search needs
 
 returns-2 : tie.Need-returns-2
 returns-2 c =
@@ -62,14 +44,14 @@ pub lightest-spec : {M : Type 1} → statement M
 lightest-spec =
     tie.close
     (tie.spec
-    table-requires
-    of-requires
-    enum-known-r
-    enum-known-q
+    (λ c κs. search needs)
+    (λ c κs. search needs)
+    (λ c. search needs)
+    (λ c. search needs)
     size-requires
     slice-aggregate-lightest
     lightest-requires
-    offered-listing-requires
+    (λ c κs. search needs)
     returns
-    same-length
+    (λ c. search needs)
     returns-2)

@@ -9,18 +9,6 @@ use Rattle.limiter.proofs.Calls.{telling}
 use Rattle.limiter.proofs.newest.Statement.{statement}
 use Rattle.limiter.proofs.newest.Tie as tie
 
-table-requires : tie.Need-table-requires
-table-requires c κs = search needs
-
-of-requires : tie.Need-of-requires
-of-requires c κs = search needs
-
-enum-known-r : tie.Need-enum-known-r
-enum-known-r c = search needs
-
-enum-known-q : tie.Need-enum-known-q
-enum-known-q c = search needs
-
 size-requires : tie.Need-size-requires
 size-requires c κs = let o = c .before in part-most _ (sym (o .q .given .1) ∙ o .before .before .of .ensures)
 
@@ -29,9 +17,6 @@ slice-aggregate-newest c = let o = c .before .before .before in part-long _ (sym
 
 newest-requires : tie.Need-newest-requires
 newest-requires c κs = let z = c .before .before in let o = z .before .before in (part-ready _ (sym (o .q .given .1) ∙ o .before .before .of .ensures) (z .size .ensures), search needs)
-
-offered-ticket-requires : tie.Need-offered-ticket-requires
-offered-ticket-requires c κs = search needs
 
 returns : tie.Need-returns
 returns c = let o = c .before in call-refuses (telling history.newestTicket _) _ (sym (o .r .given .1) ∙ o .before .before .of .ensures)
@@ -46,13 +31,13 @@ pub newest-spec : {M : Type 1} → statement M
 newest-spec =
     tie.close
     (tie.spec
-    table-requires
-    of-requires
-    enum-known-r
-    enum-known-q
+    (λ c κs. search needs)
+    (λ c κs. search needs)
+    (λ c. search needs)
+    (λ c. search needs)
     size-requires
     slice-aggregate-newest
     newest-requires
-    offered-ticket-requires
+    (λ c κs. search needs)
     returns
     returns-2)

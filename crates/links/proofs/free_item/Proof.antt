@@ -6,21 +6,6 @@ use Rattle.links.proofs.Pools.{free-writes}
 use Rattle.links.proofs.free_item.Statement.{statement}
 use Rattle.links.proofs.free_item.Tie as tie
 
-header-requires : tie.Need-header-requires
-header-requires c κs = search needs
-
-item-at-requires : tie.Need-item-at-requires
-item-at-requires c κs = search needs
-
-blank-requires : tie.Need-blank-requires
-blank-requires c κs = search needs
-
-set-header-requires : tie.Need-set-header-requires
-set-header-requires c κs = search needs
-
-same-length : tie.Need-same-length
-same-length c = search needs
-
 returns : tie.Need-returns
 returns c =
     let w = c .before .before .set-header in
@@ -33,9 +18,9 @@ pub free-item-spec : {M : Type 1} → statement M
 free-item-spec =
     tie.close
     (tie.spec
-    header-requires
-    item-at-requires
-    blank-requires
-    set-header-requires
-    same-length
+    (λ c κs. search needs)
+    (λ c κs. search needs)
+    (λ c κs. search needs)
+    (λ c κs. search needs)
+    (λ c. search needs)
     returns)

@@ -6,25 +6,10 @@ use Rattle.table.specs.Kind as kind
 use Rattle.links.proofs.insert_after.Statement.{statement}
 use Rattle.links.proofs.insert_after.Tie as tie
 
-link-of-requires : tie.Need-link-of-requires
-link-of-requires c κs = search needs
-
-set-link-requires : tie.Need-set-link-requires
-set-link-requires c κs = search needs
-
-set-link-requires-2 : tie.Need-set-link-requires-2
-set-link-requires-2 c κs = search needs
-
-set-link-requires-3 : tie.Need-set-link-requires-3
-set-link-requires-3 c κs = search needs
-
 put-link-requires : tie.Need-put-link-requires
 put-link-requires c κs =
     let x = c .before .before .before .before .before .before .before .before .before .before .before .before .before in
     rw (x .link-of .ensures) (omega arith, λ n. omega (arith, x .before .before .before .pre .1 .1 .1 n .0))
-
-same-length : tie.Need-same-length
-same-length c = search needs
 
 returns : tie.Need-returns
 returns c =
@@ -47,10 +32,10 @@ pub insert-after-spec : {M : Type 1} → statement M
 insert-after-spec =
     tie.close
     (tie.spec
-    link-of-requires
-    set-link-requires
-    set-link-requires-2
-    set-link-requires-3
+    (λ c κs. search needs)
+    (λ c κs. search needs)
+    (λ c κs. search needs)
+    (λ c κs. search needs)
     put-link-requires
-    same-length
+    (λ c. search needs)
     returns)

@@ -5,16 +5,10 @@ use Rattle.links.proofs.Strands.{order-lens, insert-asks, insert-does}
 use Rattle.links.proofs.insert_client.Statement.{statement}
 use Rattle.links.proofs.insert_client.Tie as tie
 
-order-requires : tie.Need-order-requires
-order-requires c κs = search needs
-
 insert-requires : tie.Need-insert-requires
 insert-requires c κs =
     let k = c .before .before .before in
     insert-asks (order-lens _ (k .pre .0 .small)) (lit< tt) (c .order .ensures) _ _ _ (k .pre)
-
-same-length : tie.Need-same-length
-same-length c = search needs
 
 returns : tie.Need-returns
 returns c =
@@ -23,4 +17,4 @@ returns c =
     insert-does (order-lens _ (k .pre .0 .small)) (lit< tt) (u .before .order .ensures) _ _ _ (k .pre) (u .insert .ensures)
 
 pub insert-client-spec : {M : Type 1} → statement M
-insert-client-spec = tie.close (tie.spec order-requires insert-requires same-length returns)
+insert-client-spec = tie.close (tie.spec (λ c κs. search needs) insert-requires (λ c. search needs) returns)

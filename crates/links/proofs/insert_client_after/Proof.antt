@@ -5,16 +5,10 @@ use Rattle.links.proofs.Strands.{order-lens, after-asks, after-does}
 use Rattle.links.proofs.insert_client_after.Statement.{statement}
 use Rattle.links.proofs.insert_client_after.Tie as tie
 
-order-requires : tie.Need-order-requires
-order-requires c κs = search needs
-
 insert-after-requires : tie.Need-insert-after-requires
 insert-after-requires c κs =
     let k = c .before .before .before in
     after-asks (order-lens _ (k .pre .0 .small)) (lit< tt) (c .order .ensures) _ _ (k .pre)
-
-same-length : tie.Need-same-length
-same-length c = search needs
 
 returns : tie.Need-returns
 returns c =
@@ -24,4 +18,4 @@ returns c =
 
 pub insert-client-after-spec : {M : Type 1} → statement M
 insert-client-after-spec =
-    tie.close (tie.spec order-requires insert-after-requires same-length returns)
+    tie.close (tie.spec (λ c κs. search needs) insert-after-requires (λ c. search needs) returns)

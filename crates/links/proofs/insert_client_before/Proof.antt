@@ -7,19 +7,10 @@ use Rattle.links.proofs.Strands.{heaviest-lens, after-asks, after-does,
 use Rattle.links.proofs.insert_client_before.Statement.{statement}
 use Rattle.links.proofs.insert_client_before.Tie as tie
 
-order-requires : tie.Need-order-requires
-order-requires c κs = search needs
-
-reversed-requires : tie.Need-reversed-requires
-reversed-requires c κs = search needs
-
 insert-after-requires : tie.Need-insert-after-requires
 insert-after-requires c κs =
     let k = c .before .before .before .before in
     after-asks (heaviest-lens _ (k .pre .0 .small)) (lit< tt) (c .reversed .ensures ∙ ap otherWay (c .before .order .ensures)) _ _ (k .pre)
-
-same-length : tie.Need-same-length
-same-length c = search needs
 
 returns : tie.Need-returns
 returns c =
@@ -31,4 +22,4 @@ returns c =
 
 pub insert-client-before-spec : {M : Type 1} → statement M
 insert-client-before-spec =
-    tie.close (tie.spec order-requires reversed-requires insert-after-requires same-length returns)
+    tie.close (tie.spec (λ c κs. search needs) (λ c κs. search needs) insert-after-requires (λ c. search needs) returns)

@@ -4,16 +4,10 @@ use Rattle.links.proofs.Strands.{own-lens, insert-asks, insert-does}
 use Rattle.links.proofs.insert_own.Statement.{statement}
 use Rattle.links.proofs.insert_own.Tie as tie
 
-own-requires : tie.Need-own-requires
-own-requires c κs = search needs
-
 insert-requires : tie.Need-insert-requires
 insert-requires c κs =
     let k = c .before .before .before in
     insert-asks (own-lens _ (k .pre .0 .small) _) (k .pre .1 .0) (c .own .ensures) _ _ _ (k .pre .0, k .pre .1 .1)
-
-same-length : tie.Need-same-length
-same-length c = search needs
 
 returns : tie.Need-returns
 returns c =
@@ -22,4 +16,4 @@ returns c =
     insert-does (own-lens _ (k .pre .0 .small) _) (k .pre .1 .0) (u .before .own .ensures) _ _ _ (k .pre .0, k .pre .1 .1) (u .insert .ensures)
 
 pub insert-own-spec : {M : Type 1} → statement M
-insert-own-spec = tie.close (tie.spec own-requires insert-requires same-length returns)
+insert-own-spec = tie.close (tie.spec (λ c κs. search needs) insert-requires (λ c. search needs) returns)

@@ -3,11 +3,8 @@ use borrow.Author.Needs.{needs}
 use Rattle.links.proofs.order.Statement.{statement}
 use Rattle.links.proofs.order.Tie as tie
 
-clients-from-requires : tie.Need-clients-from-requires
-clients-from-requires c κs = search needs
-
 returns : tie.Need-returns
 returns c = cc
 
 pub order-spec : {M : Type 1} → statement M
-order-spec = tie.close (tie.spec clients-from-requires returns)
+order-spec = tie.close (tie.spec (λ c κs. search needs) returns)

@@ -4,20 +4,11 @@ use borrow.Author.Needs.{needs}
 use Rattle.links.proofs.push.Statement.{statement}
 use Rattle.links.proofs.push.Tie as tie
 
-mul-e : tie.Need-mul-e
-mul-e c = search needs
-
-slice-read-e : tie.Need-slice-read-e
-slice-read-e c = search needs
-
 insert-requires : tie.Need-insert-requires
 insert-requires c κs = let k = c .before .before .before in (k .pre .0, (k .pre .1 .0, (k .pre .1 .1, λ n. absurd (n refl))))
-
-same-length : tie.Need-same-length
-same-length c = search needs
 
 returns : tie.Need-returns
 returns c = search needs
 
 pub push-spec : {M : Type 1} → statement M
-push-spec = tie.close (tie.spec mul-e slice-read-e insert-requires same-length returns)
+push-spec = tie.close (tie.spec (λ c. search needs) (λ c. search needs) insert-requires (λ c. search needs) returns)

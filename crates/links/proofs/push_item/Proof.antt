@@ -5,16 +5,10 @@ use Rattle.links.proofs.Strands.{window-lens, push-asks, push-does}
 use Rattle.links.proofs.push_item.Statement.{statement}
 use Rattle.links.proofs.push_item.Tie as tie
 
-window-requires : tie.Need-window-requires
-window-requires c κs = search needs
-
 push-requires : tie.Need-push-requires
 push-requires c κs =
     let k = c .before .before .before in
     push-asks (window-lens _ (k .pre .0 .small)) (lit< tt) (c .window .ensures) _ (k .pre)
-
-same-length : tie.Need-same-length
-same-length c = search needs
 
 returns : tie.Need-returns
 returns c =
@@ -23,4 +17,4 @@ returns c =
     push-does (window-lens _ (k .pre .0 .small)) (lit< tt) (u .before .window .ensures) _ (k .pre) (u .push .ensures)
 
 pub push-item-spec : {M : Type 1} → statement M
-push-item-spec = tie.close (tie.spec window-requires push-requires same-length returns)
+push-item-spec = tie.close (tie.spec (λ c κs. search needs) push-requires (λ c. search needs) returns)

@@ -5,23 +5,11 @@ use borrow.Author.Needs.{needs}
 use Rattle.links.proofs.put_link.Statement.{statement}
 use Rattle.links.proofs.put_link.Tie as tie
 
-mul-t : tie.Need-mul-t
-mul-t c = search needs
-
-slice-write-t : tie.Need-slice-write-t
-slice-write-t c = search needs
-
 set-link-requires : tie.Need-set-link-requires
 set-link-requires c κs = let e = c .before in e .before .before .pre .1 (e .if1 .left)
 
-same-length : tie.Need-same-length
-same-length c = search needs
-
 returns : tie.Need-returns
 returns c = rw (eq-eqb _ _ (sym (c .if1 .taken)))
-
-same-length-2 : tie.Need-same-length-2
-same-length-2 c = search needs
 
 returns-2 : tie.Need-returns-2
 returns-2 c =
@@ -31,4 +19,4 @@ returns-2 c =
 pub put-link-spec : {M : Type 1} → statement M
 put-link-spec =
     tie.close
-    (tie.spec mul-t slice-write-t set-link-requires same-length returns same-length-2 returns-2)
+    (tie.spec (λ c. search needs) (λ c. search needs) set-link-requires (λ c. search needs) returns (λ c. search needs) returns-2)

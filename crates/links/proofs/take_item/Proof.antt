@@ -6,18 +6,6 @@ use Rattle.links.proofs.Pools.{take-writes}
 use Rattle.links.proofs.take_item.Statement.{statement}
 use Rattle.links.proofs.take_item.Tie as tie
 
-header-requires : tie.Need-header-requires
-header-requires c κs = search needs
-
-item-requires : tie.Need-item-requires
-item-requires c κs = search needs
-
-set-header-requires : tie.Need-set-header-requires
-set-header-requires c κs = search needs
-
-same-length : tie.Need-same-length
-same-length c = search needs
-
 returns : tie.Need-returns
 returns c =
     let w = c .before .before .set-header in
@@ -27,4 +15,4 @@ returns c =
 
 pub take-item-spec : {M : Type 1} → statement M
 take-item-spec =
-    tie.close (tie.spec header-requires item-requires set-header-requires same-length returns)
+    tie.close (tie.spec (λ c κs. search needs) (λ c κs. search needs) (λ c κs. search needs) (λ c. search needs) returns)

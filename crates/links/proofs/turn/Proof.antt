@@ -10,11 +10,8 @@ put-link-requires c κs = let k = c .before .before in (k .pre .0 .0, λ n. k .p
 put-link-requires-2 : tie.Need-put-link-requires-2
 put-link-requires-2 c κs = let k = c .before .before .before .before .before .before in (search needs, λ n. omega (arith, k .pre .1 .1 n .0))
 
-same-length : tie.Need-same-length
-same-length c = search needs
-
 returns : tie.Need-returns
 returns c = cc
 
 pub turn-spec : {M : Type 1} → statement M
-turn-spec = tie.close (tie.spec put-link-requires put-link-requires-2 same-length returns)
+turn-spec = tie.close (tie.spec put-link-requires put-link-requires-2 (λ c. search needs) returns)

@@ -3,12 +3,6 @@ use borrow.Author.Needs.{needs}
 use Rattle.links.proofs.unlink.Statement.{statement}
 use Rattle.links.proofs.unlink.Tie as tie
 
-link-of-requires : tie.Need-link-of-requires
-link-of-requires c κs = search needs
-
-link-of-requires-2 : tie.Need-link-of-requires-2
-link-of-requires-2 c κs = search needs
-
 turn-requires : tie.Need-turn-requires
 turn-requires c κs =
     let b = c .before in
@@ -16,12 +10,9 @@ turn-requires c κs =
     let k = a .before .before .before in
     rw (a .link-of .ensures, b .link-of2 .ensures) (k .pre .0, k .pre .1 .1)
 
-same-length : tie.Need-same-length
-same-length c = search needs
-
 returns : tie.Need-returns
 returns c = cc
 
 pub unlink-spec : {M : Type 1} → statement M
 unlink-spec =
-    tie.close (tie.spec link-of-requires link-of-requires-2 turn-requires same-length returns)
+    tie.close (tie.spec (λ c κs. search needs) (λ c κs. search needs) turn-requires (λ c. search needs) returns)

@@ -5,16 +5,10 @@ use Rattle.links.proofs.Strands.{order-lens, unlink-asks, unlink-does}
 use Rattle.links.proofs.unlink_client.Statement.{statement}
 use Rattle.links.proofs.unlink_client.Tie as tie
 
-order-requires : tie.Need-order-requires
-order-requires c κs = search needs
-
 unlink-requires : tie.Need-unlink-requires
 unlink-requires c κs =
     let k = c .before .before .before in
     unlink-asks (order-lens _ (k .pre .0 .small)) (lit< tt) (c .order .ensures) _ (k .pre)
-
-same-length : tie.Need-same-length
-same-length c = search needs
 
 returns : tie.Need-returns
 returns c =
@@ -23,4 +17,4 @@ returns c =
     unlink-does (order-lens _ (k .pre .0 .small)) (lit< tt) (u .before .order .ensures) _ (k .pre) (u .unlink .ensures)
 
 pub unlink-client-spec : {M : Type 1} → statement M
-unlink-client-spec = tie.close (tie.spec order-requires unlink-requires same-length returns)
+unlink-client-spec = tie.close (tie.spec (λ c κs. search needs) unlink-requires (λ c. search needs) returns)

@@ -5,16 +5,10 @@ use Rattle.links.proofs.Strands.{window-lens, unlink-asks, unlink-does}
 use Rattle.links.proofs.unlink_item.Statement.{statement}
 use Rattle.links.proofs.unlink_item.Tie as tie
 
-window-requires : tie.Need-window-requires
-window-requires c κs = search needs
-
 unlink-requires : tie.Need-unlink-requires
 unlink-requires c κs =
     let k = c .before .before .before in
     unlink-asks (window-lens _ (k .pre .0 .small)) (lit< tt) (c .window .ensures) _ (k .pre)
-
-same-length : tie.Need-same-length
-same-length c = search needs
 
 returns : tie.Need-returns
 returns c =
@@ -23,4 +17,4 @@ returns c =
     unlink-does (window-lens _ (k .pre .0 .small)) (lit< tt) (u .before .window .ensures) _ (k .pre) (u .unlink .ensures)
 
 pub unlink-item-spec : {M : Type 1} → statement M
-unlink-item-spec = tie.close (tie.spec window-requires unlink-requires same-length returns)
+unlink-item-spec = tie.close (tie.spec (λ c κs. search needs) unlink-requires (λ c. search needs) returns)

@@ -3,11 +3,8 @@ use borrow.Author.Needs.{needs}
 use Rattle.links.proofs.window.Statement.{statement}
 use Rattle.links.proofs.window.Tie as tie
 
-item-at-requires : tie.Need-item-at-requires
-item-at-requires c κs = search needs
-
 returns : tie.Need-returns
 returns c = cc
 
 pub window-spec : {M : Type 1} → statement M
-window-spec = tie.close (tie.spec item-at-requires returns)
+window-spec = tie.close (tie.spec (λ c κs. search needs) returns)

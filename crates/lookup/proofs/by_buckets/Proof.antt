@@ -12,17 +12,8 @@ Inv-loop t q s n room₀ b₀ room b = Checks q t n b room
 abbrev μ-loop : tie.MeasureT-loop
 μ-loop t q s n room₀ b₀ room b = q - b
 
-add-room : tie.Need-add-room Inv-loop μ-loop
-add-room c = search needs
-
 loop-holds : tie.Need-loop-holds Inv-loop μ-loop
 loop-holds c = search (checks-first, needs)
-
-bucket-requires : tie.Need-bucket-requires Inv-loop μ-loop
-bucket-requires c κs = search needs
-
-room-after-requires : tie.Need-room-after-requires Inv-loop μ-loop
-room-after-requires c κs = search needs
 
 returns : tie.Need-returns Inv-loop μ-loop
 returns c = search (checks-wrong, needs)
@@ -37,12 +28,6 @@ own-ids-requires c κs =
 returns-2 : tie.Need-returns-2 Inv-loop μ-loop
 returns-2 c = search (checks-ids, needs)
 
-add-b : tie.Need-add-b Inv-loop μ-loop
-add-b c = search needs
-
-loop-less : tie.Need-loop-less Inv-loop μ-loop
-loop-less c = search needs
-
 loop-again : tie.Need-loop-again Inv-loop μ-loop
 loop-again c = search (checks-next, needs)
 
@@ -55,15 +40,15 @@ by-buckets-spec =
     (tie.spec
     Inv-loop
     μ-loop
-    add-room
+    (λ c. search needs)
     loop-holds
-    bucket-requires
-    room-after-requires
+    (λ c κs. search needs)
+    (λ c κs. search needs)
     returns
     sub-own-ids
     own-ids-requires
     returns-2
-    add-b
-    loop-less
+    (λ c. search needs)
+    (λ c. search needs)
     loop-again
     returns-3)

@@ -15,37 +15,16 @@ Inv-loop t q s n rows links₀ r₀ links r = Walked q t r links
 abbrev μ-loop : tie.MeasureT-loop
 μ-loop t q s n rows links₀ r₀ links r = q - r
 
-cast-rows : tie.Need-cast-rows Inv-loop μ-loop
-cast-rows c = search needs
-
-heads-requires : tie.Need-heads-requires Inv-loop μ-loop
-heads-requires c κs = search needs
-
 loop-holds : tie.Need-loop-holds Inv-loop μ-loop
 loop-holds c = search (walked-first, needs)
 
-client-requires : tie.Need-client-requires Inv-loop μ-loop
-client-requires c κs = search needs
-
-stands-requires : tie.Need-stands-requires Inv-loop μ-loop
-stands-requires c κs = search needs
-
 returns : tie.Need-returns Inv-loop μ-loop
 returns c = λ e. absurd (no-true e)
-
-client-requires-2 : tie.Need-client-requires-2 Inv-loop μ-loop
-client-requires-2 c κs = search needs
 
 add-links : tie.Need-add-links Inv-loop μ-loop
 add-links c =
     let few = walked-few (c .before .before .before .before .before .before .before .before .loop .inv) in
     ⊎-elim (λ w. omega (arith, few, w .1)) (λ w. omega (arith, few, w .1)) (c .before .if3 .came)
-
-add-r : tie.Need-add-r Inv-loop μ-loop
-add-r c = search needs
-
-loop-less : tie.Need-loop-less Inv-loop μ-loop
-loop-less c = search needs
 
 loop-again : tie.Need-loop-again Inv-loop μ-loop
 loop-again c =
@@ -69,15 +48,15 @@ by-clients-spec =
     (tie.spec
     Inv-loop
     μ-loop
-    cast-rows
-    heads-requires
+    (λ c. search needs)
+    (λ c κs. search needs)
     loop-holds
-    client-requires
-    stands-requires
+    (λ c κs. search needs)
+    (λ c κs. search needs)
     returns
-    client-requires-2
+    (λ c κs. search needs)
     add-links
-    add-r
-    loop-less
+    (λ c. search needs)
+    (λ c. search needs)
     loop-again
     returns-2)

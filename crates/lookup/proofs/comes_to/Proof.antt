@@ -12,9 +12,6 @@ Inv-loop t q first r x rows at₀ left₀ at left = Coming q t first x at left
 abbrev μ-loop : tie.MeasureT-loop
 μ-loop t q first r x rows at₀ left₀ at left = left
 
-cast-rows : tie.Need-cast-rows Inv-loop μ-loop
-cast-rows c = search needs
-
 loop-holds : tie.Need-loop-holds Inv-loop μ-loop
 loop-holds c = search (coming-first, needs)
 
@@ -24,20 +21,8 @@ returns c = λ e. absurd (no-true e)
 client-requires : tie.Need-client-requires Inv-loop μ-loop
 client-requires c κs = search needs
 
-client-requires-2 : tie.Need-client-requires-2 Inv-loop μ-loop
-client-requires-2 c κs = search needs
-
 returns-2 : tie.Need-returns-2 Inv-loop μ-loop
 returns-2 c = λ e. absurd (no-true e)
-
-client-requires-3 : tie.Need-client-requires-3 Inv-loop μ-loop
-client-requires-3 c κs = search needs
-
-sub-left : tie.Need-sub-left Inv-loop μ-loop
-sub-left c = search needs
-
-loop-less : tie.Need-loop-less Inv-loop μ-loop
-loop-less c = search needs
 
 loop-again : tie.Need-loop-again Inv-loop μ-loop
 loop-again c =
@@ -54,14 +39,14 @@ comes-to-spec =
     (tie.spec
     Inv-loop
     μ-loop
-    cast-rows
+    (λ c. search needs)
     loop-holds
     returns
     client-requires
-    client-requires-2
+    (λ c κs. search needs)
     returns-2
-    client-requires-3
-    sub-left
-    loop-less
+    (λ c κs. search needs)
+    (λ c. search needs)
+    (λ c. search needs)
     loop-again
     returns-3)

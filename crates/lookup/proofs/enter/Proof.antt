@@ -7,18 +7,12 @@ use Rattle.lookup.proofs.enter.Tie as tie
 bucket-requires : tie.Need-bucket-requires
 bucket-requires c κs = search (home-low, needs)
 
-set-client-requires : tie.Need-set-client-requires
-set-client-requires c κs = search needs
-
 set-bucket-requires : tie.Need-set-bucket-requires
 set-bucket-requires c κs = search (home-low, needs)
-
-same-length : tie.Need-same-length
-same-length c = search needs
 
 returns : tie.Need-returns
 returns c = search (enters, needs)
 
 pub enter-spec : {M : Type 1} → statement M
 enter-spec =
-    tie.close (tie.spec bucket-requires set-client-requires set-bucket-requires same-length returns)
+    tie.close (tie.spec bucket-requires (λ c κs. search needs) set-bucket-requires (λ c. search needs) returns)

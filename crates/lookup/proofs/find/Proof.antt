@@ -4,12 +4,6 @@ use Rattle.lookup.proofs.Walks.{first-ends, first-found}
 use Rattle.lookup.proofs.find.Statement.{statement}
 use Rattle.lookup.proofs.find.Tie as tie
 
-bucket-in-requires : tie.Need-bucket-in-requires
-bucket-in-requires c κs = search needs
-
-bucket-requires : tie.Need-bucket-requires
-bucket-requires c κs = search needs
-
 seek-requires : tie.Need-seek-requires
 seek-requires c κs = search (first-ends, needs)
 
@@ -17,4 +11,4 @@ returns : tie.Need-returns
 returns c = search (first-found, needs)
 
 pub find-spec : {M : Type 1} → statement M
-find-spec = tie.close (tie.spec bucket-in-requires bucket-requires seek-requires returns)
+find-spec = tie.close (tie.spec (λ c κs. search needs) (λ c κs. search needs) seek-requires returns)

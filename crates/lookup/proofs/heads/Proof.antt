@@ -17,19 +17,10 @@ abbrev μ-loop : tie.MeasureT-loop
 loop-holds : tie.Need-loop-holds Inv-loop μ-loop
 loop-holds c = search (counts-first, needs)
 
-bucket-requires : tie.Need-bucket-requires Inv-loop μ-loop
-bucket-requires c κs = search needs
-
 add-n : tie.Need-add-n Inv-loop μ-loop
 add-n c =
     let few = counts-few (c .before .before .before .before .loop .inv .1) in
     ⊎-elim (λ w. omega (arith, few, w .1)) (λ w. omega (arith, few, w .1)) (c .before .if1 .came)
-
-add-k : tie.Need-add-k Inv-loop μ-loop
-add-k c = search needs
-
-loop-less : tie.Need-loop-less Inv-loop μ-loop
-loop-less c = search needs
 
 loop-again : tie.Need-loop-again Inv-loop μ-loop
 loop-again c =
@@ -44,4 +35,4 @@ returns c = let m = c .before .loop .inv in counts-all (m .1) (m .0) (search nee
 pub heads-spec : {M : Type 1} → statement M
 heads-spec =
     tie.close
-    (tie.spec Inv-loop μ-loop loop-holds bucket-requires add-n add-k loop-less loop-again returns)
+    (tie.spec Inv-loop μ-loop loop-holds (λ c κs. search needs) add-n (λ c. search needs) (λ c. search needs) loop-again returns)

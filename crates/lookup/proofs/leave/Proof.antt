@@ -5,15 +5,6 @@ use Rattle.lookup.proofs.Writers.{leaves}
 use Rattle.lookup.proofs.leave.Statement.{statement}
 use Rattle.lookup.proofs.leave.Tie as tie
 
-client-requires : tie.Need-client-requires
-client-requires c κs = search needs
-
-bucket-in-requires : tie.Need-bucket-in-requires
-bucket-in-requires c κs = search needs
-
-bucket-requires : tie.Need-bucket-requires
-bucket-requires c κs = search needs
-
 behind-requires : tie.Need-behind-requires
 behind-requires c κs =
     let h = c .before in
@@ -22,12 +13,6 @@ behind-requires c κs =
     let s = x .before .before .before in
     (s .pre .0, first-reaches (s .pre .0) (b .bucket-in .ensures .1) (h .bucket .ensures) (s .pre .1 .1) (x .client .ensures) (b .bucket-in .ensures .0))
 
-unhook-requires : tie.Need-unhook-requires
-unhook-requires c κs = search needs
-
-same-length : tie.Need-same-length
-same-length c = search needs
-
 returns : tie.Need-returns
 returns c = search (leaves, needs)
 
@@ -35,10 +20,10 @@ pub leave-spec : {M : Type 1} → statement M
 leave-spec =
     tie.close
     (tie.spec
-    client-requires
-    bucket-in-requires
-    bucket-requires
+    (λ c κs. search needs)
+    (λ c κs. search needs)
+    (λ c κs. search needs)
     behind-requires
-    unhook-requires
-    same-length
+    (λ c κs. search needs)
+    (λ c. search needs)
     returns)

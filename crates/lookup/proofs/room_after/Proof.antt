@@ -16,20 +16,11 @@ loop-holds c = search (rooms-first, needs)
 returns : tie.Need-returns Inv-loop μ-loop
 returns c = search (rooms-spent, needs)
 
-fits-requires : tie.Need-fits-requires Inv-loop μ-loop
-fits-requires c κs = search needs
-
 returns-2 : tie.Need-returns-2 Inv-loop μ-loop
 returns-2 c = search (rooms-wrong, needs)
 
 client-requires : tie.Need-client-requires Inv-loop μ-loop
 client-requires c κs = search (fits-low (c .before .fits2 .ensures) (c .if2 .left), needs)
-
-sub-left : tie.Need-sub-left Inv-loop μ-loop
-sub-left c = search needs
-
-loop-less : tie.Need-loop-less Inv-loop μ-loop
-loop-less c = search needs
 
 loop-again : tie.Need-loop-again Inv-loop μ-loop
 loop-again c = search (rooms-next, needs)
@@ -45,10 +36,10 @@ room-after-spec =
     μ-loop
     loop-holds
     returns
-    fits-requires
+    (λ c κs. search needs)
     returns-2
     client-requires
-    sub-left
-    loop-less
+    (λ c. search needs)
+    (λ c. search needs)
     loop-again
     returns-3)

@@ -4,20 +4,11 @@ use Rattle.lookup.proofs.Writers.{link-row, end-writes, row-writes}
 use Rattle.lookup.proofs.set_hook.Statement.{statement}
 use Rattle.lookup.proofs.set_hook.Tie as tie
 
-set-bucket-requires : tie.Need-set-bucket-requires
-set-bucket-requires c κs = search needs
-
 set-client-requires : tie.Need-set-client-requires
 set-client-requires c κs = search (link-row, needs)
 
-same-length : tie.Need-same-length
-same-length c = search needs
-
 returns : tie.Need-returns
 returns c = search (end-writes, needs)
-
-same-length-2 : tie.Need-same-length-2
-same-length-2 c = search needs
 
 returns-2 : tie.Need-returns-2
 returns-2 c = search (row-writes, needs)
@@ -25,4 +16,4 @@ returns-2 c = search (row-writes, needs)
 pub set-hook-spec : {M : Type 1} → statement M
 set-hook-spec =
     tie.close
-    (tie.spec set-bucket-requires set-client-requires same-length returns same-length-2 returns-2)
+    (tie.spec (λ c κs. search needs) set-client-requires (λ c. search needs) returns (λ c. search needs) returns-2)

@@ -4,18 +4,6 @@ use Rattle.lookup.proofs.Quick.{stands-by}
 use Rattle.lookup.proofs.stands.Statement.{statement}
 use Rattle.lookup.proofs.stands.Tie as tie
 
-client-requires : tie.Need-client-requires
-client-requires c κs = search needs
-
-bucket-in-requires : tie.Need-bucket-in-requires
-bucket-in-requires c κs = search needs
-
-bucket-requires : tie.Need-bucket-requires
-bucket-requires c κs = search needs
-
-comes-to-requires : tie.Need-comes-to-requires
-comes-to-requires c κs = search needs
-
 returns : tie.Need-returns
 returns c = λ o.
     let b = c .before .before in
@@ -24,4 +12,4 @@ returns c = λ o.
 pub stands-spec : {M : Type 1} → statement M
 stands-spec =
     tie.close
-    (tie.spec client-requires bucket-in-requires bucket-requires comes-to-requires returns)
+    (tie.spec (λ c κs. search needs) (λ c κs. search needs) (λ c κs. search needs) (λ c κs. search needs) returns)

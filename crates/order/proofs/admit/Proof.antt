@@ -32,9 +32,6 @@ one-more-requires c κs =
     let (is, (takes, _)) = k .take-row .ensures in
     (p .put-first .ensures .1, room-after D _ is takes (e .enter .ensures .0) (p .put-first .ensures .0))
 
-same-length : tie.Need-same-length
-same-length c = search needs
-
 returns : tie.Need-returns
 returns c =
     let m = c .before .before in
@@ -53,5 +50,5 @@ admit-spec =
     enter-requires
     put-first-requires
     one-more-requires
-    same-length
+    (λ c. search needs)
     returns)

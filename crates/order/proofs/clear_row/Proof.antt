@@ -4,18 +4,6 @@ use Rattle.table.proofs.Write.{then}
 use Rattle.order.proofs.clear_row.Statement.{statement}
 use Rattle.order.proofs.clear_row.Tie as tie
 
-set-client-requires : tie.Need-set-client-requires
-set-client-requires c κs = search needs
-
-set-client-requires-2 : tie.Need-set-client-requires-2
-set-client-requires-2 c κs = search needs
-
-set-client-requires-3 : tie.Need-set-client-requires-3
-set-client-requires-3 c κs = search needs
-
-same-length : tie.Need-same-length
-same-length c = search needs
-
 returns : tie.Need-returns
 returns c =
     let z = c .before .before in
@@ -26,4 +14,4 @@ returns c =
 pub clear-row-spec : {M : Type 1} → statement M
 clear-row-spec =
     tie.close
-    (tie.spec set-client-requires set-client-requires-2 set-client-requires-3 same-length returns)
+    (tie.spec (λ c κs. search needs) (λ c κs. search needs) (λ c κs. search needs) (λ c. search needs) returns)

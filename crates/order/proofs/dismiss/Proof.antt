@@ -28,9 +28,6 @@ one-less-requires c κs =
     let (_, (_, (D, _))) = l .before .before .before .pre in
     (f .free-row .ensures .1, somebody D (l .leave .ensures .0) (m .remove .ensures .0) (f .free-row .ensures .0))
 
-same-length : tie.Need-same-length
-same-length c = search needs
-
 returns : tie.Need-returns
 returns c =
     let v = c .before .before in
@@ -48,5 +45,5 @@ dismiss-spec =
     remove-requires
     free-row-requires
     one-less-requires
-    same-length
+    (λ c. search needs)
     returns)

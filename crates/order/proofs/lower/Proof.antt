@@ -16,14 +16,8 @@ known s =
 sub-k : tie.Need-sub-k
 sub-k c = known (c .before) .1
 
-cast-k : tie.Need-cast-k
-cast-k c = search needs
-
 light-end-requires : tie.Need-light-end-requires
 light-end-requires c κs = let s = c .before .before in (s .pre .0, omega (arith, known s))
-
-add-leave-group : tie.Need-add-leave-group
-add-leave-group c = search needs
 
 leave-group-requires : tie.Need-leave-group-requires
 leave-group-requires c κs = let s = c .before .before .before .before in (s .pre .0, (known s .0, omega (arith, known s)))
@@ -52,9 +46,6 @@ enter-group-requires c κs =
     let s = n .before .before .before .before .before .before .before .before .before .before .before .before .before in
     (n .set-client .ensures .1, omega (arith, known s))
 
-same-length : tie.Need-same-length
-same-length c = search needs
-
 returns : tie.Need-returns
 returns c =
     let v = c .before .before in
@@ -73,13 +64,13 @@ lower-spec =
     tie.close
     (tie.spec
     sub-k
-    cast-k
+    (λ c. search needs)
     light-end-requires
-    add-leave-group
+    (λ c. search needs)
     leave-group-requires
     move-before-requires
     sub-set-client
     set-client-requires
     enter-group-requires
-    same-length
+    (λ c. search needs)
     returns)

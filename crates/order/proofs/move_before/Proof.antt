@@ -15,9 +15,6 @@ insert-client-before-requires c κs =
     let (hr, (he, links)) = insert-asks (s .pre .0 .small) (s .pre .1 .0) (i .if1 .taken) (u .unlink-client .ensures .0) in
     (u .unlink-client .ensures .1, (hr, (he, links .0)))
 
-same-length : tie.Need-same-length
-same-length c = search needs
-
 returns : tie.Need-returns
 returns c =
     let v = c .before .before in
@@ -32,4 +29,4 @@ returns-2 c = let s = c .before .before in (stays-before (s .pre .0 .small) (s .
 pub move-before-spec : {M : Type 1} → statement M
 move-before-spec =
     tie.close
-    (tie.spec unlink-client-requires insert-client-before-requires same-length returns returns-2)
+    (tie.spec unlink-client-requires insert-client-before-requires (λ c. search needs) returns returns-2)

@@ -5,23 +5,11 @@ use Rattle.order.proofs.Writes.{first-writes}
 use Rattle.order.proofs.put_first.Statement.{statement}
 use Rattle.order.proofs.put_first.Tie as tie
 
-header-requires : tie.Need-header-requires
-header-requires c κs = search needs
-
 insert-client-requires : tie.Need-insert-client-requires
 insert-client-requires c κs =
     let l = c .before in
     let s = l .before .before .before in
     (s .pre .0, (s .pre .1 .0, (λ n. absurd (n refl), rw (l .header .ensures) (s .pre .1 .1))))
-
-set-client-requires : tie.Need-set-client-requires
-set-client-requires c κs = search needs
-
-enter-group-requires : tie.Need-enter-group-requires
-enter-group-requires c κs = search needs
-
-same-length : tie.Need-same-length
-same-length c = search needs
 
 returns : tie.Need-returns
 returns c = search (first-writes, needs)
@@ -30,9 +18,9 @@ pub put-first-spec : {M : Type 1} → statement M
 put-first-spec =
     tie.close
     (tie.spec
-    header-requires
+    (λ c κs. search needs)
     insert-client-requires
-    set-client-requires
-    enter-group-requires
-    same-length
+    (λ c κs. search needs)
+    (λ c κs. search needs)
+    (λ c. search needs)
     returns)

@@ -16,9 +16,6 @@ known s =
 sub-k : tie.Need-sub-k
 sub-k c = known (c .before) .1
 
-cast-k : tie.Need-cast-k
-cast-k c = search needs
-
 count-end-requires : tie.Need-count-end-requires
 count-end-requires c κs = let s = c .before .before in (s .pre .0, (omega (arith, known s), lit< tt))
 
@@ -42,17 +39,11 @@ set-client-requires c κs =
     let m = c .before .before .before in
     (m .move-after .ensures .1, (known (m .before .before .before .before .before .before .before .before .before) .0, lit< tt))
 
-add-enter-group : tie.Need-add-enter-group
-add-enter-group c = search needs
-
 enter-group-requires : tie.Need-enter-group-requires
 enter-group-requires c κs =
     let n = c .before .before .before in
     let s = n .before .before .before .before .before .before .before .before .before .before .before .before .before in
     (n .set-client .ensures .1, omega (arith, known s))
-
-same-length : tie.Need-same-length
-same-length c = search needs
 
 returns : tie.Need-returns
 returns c =
@@ -69,13 +60,13 @@ raise-spec =
     tie.close
     (tie.spec
     sub-k
-    cast-k
+    (λ c. search needs)
     count-end-requires
     leave-group-requires
     move-after-requires
     add-set-client
     set-client-requires
-    add-enter-group
+    (λ c. search needs)
     enter-group-requires
-    same-length
+    (λ c. search needs)
     returns)

@@ -14,9 +14,6 @@ client-requires c κs = let (z, D) = c .before .before .pre in (z, (client-row (
 sub-leave-group : tie.Need-sub-leave-group
 sub-leave-group c = let (z, D) = c .before .before .before .before .pre in count-in (z .small) D (c .before .client .ensures) .0
 
-cast-leave-group : tie.Need-cast-leave-group
-cast-leave-group c = search needs
-
 leave-group-requires : tie.Need-leave-group-requires
 leave-group-requires c κs =
     let (z, D) = c .before .before .before .before .pre in
@@ -27,9 +24,6 @@ unlink-client-requires c κs =
     let g = c .before .before .before in
     let (z, D) = g .before .before .before .before .before .pre in
     (g .leave-group .ensures .1, unlink-asks (z .small) (strung (z .small) D _ (g .leave-group .ensures .0) _ (D .holds .there)))
-
-same-length : tie.Need-same-length
-same-length c = search needs
 
 returns : tie.Need-returns
 returns c =
@@ -45,8 +39,8 @@ remove-spec =
     (tie.spec
     client-requires
     sub-leave-group
-    cast-leave-group
+    (λ c. search needs)
     leave-group-requires
     unlink-client-requires
-    same-length
+    (λ c. search needs)
     returns)

@@ -4,15 +4,6 @@ use Rattle.table.proofs.Write.{then}
 use Rattle.order.proofs.take_row.Statement.{statement}
 use Rattle.order.proofs.take_row.Tie as tie
 
-take-client-requires : tie.Need-take-client-requires
-take-client-requires c κs = search needs
-
-set-client-requires : tie.Need-set-client-requires
-set-client-requires c κs = search needs
-
-same-length : tie.Need-same-length
-same-length c = search needs
-
 returns : tie.Need-returns
 returns c =
     let y = c .before .before in
@@ -20,4 +11,4 @@ returns c =
     (search needs, (then (x .take-client .ensures .1 .0) (y .set-client .ensures .0), search needs))
 
 pub take-row-spec : {M : Type 1} → statement M
-take-row-spec = tie.close (tie.spec take-client-requires set-client-requires same-length returns)
+take-row-spec = tie.close (tie.spec (λ c κs. search needs) (λ c κs. search needs) (λ c. search needs) returns)

@@ -7,28 +7,10 @@ use Rattle.order_check.proofs.Means.{checked}
 use Rattle.order_check.proofs.check_order.Statement.{statement}
 use Rattle.order_check.proofs.check_order.Tie as tie
 
-header-requires : tie.Need-header-requires
-header-requires c κs = search needs
-
-cast-clients : tie.Need-cast-clients
-cast-clients c = search needs
-
-ranked-requires : tie.Need-ranked-requires
-ranked-requires c κs = search needs
-
 returns : tie.Need-returns
 returns c =
     checked (search needs)
     (tells-no (λ p. ⊎-elim (λ w. omega (arith, p .few)) (λ w. refuted (w .1 .ensures) (w .2 .taken) (p .ranked)) (c .if1 .came)))
-
-clients-from-requires : tie.Need-clients-from-requires
-clients-from-requires c κs = search needs
-
-header-requires-2 : tie.Need-header-requires-2
-header-requires-2 c κs = search needs
-
-free-rows-requires : tie.Need-free-rows-requires
-free-rows-requires c κs = search needs
 
 returns-2 : tie.Need-returns-2
 returns-2 c =
@@ -42,11 +24,11 @@ pub check-order-spec : {M : Type 1} → statement M
 check-order-spec =
     tie.close
     (tie.spec
-    header-requires
-    cast-clients
-    ranked-requires
+    (λ c κs. search needs)
+    (λ c. search needs)
+    (λ c κs. search needs)
     returns
-    clients-from-requires
-    header-requires-2
-    free-rows-requires
+    (λ c κs. search needs)
+    (λ c κs. search needs)
+    (λ c κs. search needs)
     returns-2)

@@ -10,12 +10,6 @@ use Rattle.order_check.proofs.ended.Tie as tie
 returns : tie.Need-returns
 returns c = tells-yes (λ k h. absurd (omega arith))
 
-sub-count-end : tie.Need-sub-count-end
-sub-count-end c = search needs
-
-count-end-requires : tie.Need-count-end-requires
-count-end-requires c κs = search needs
-
 returns-2 : tie.Need-returns-2
 returns-2 c =
     let count = c .before .before .before .args .count in
@@ -25,4 +19,4 @@ returns-2 c =
     )
 
 pub ended-spec : {M : Type 1} → statement M
-ended-spec = tie.close (tie.spec returns sub-count-end count-end-requires returns-2)
+ended-spec = tie.close (tie.spec returns (λ c. search needs) (λ c κs. search needs) returns-2)

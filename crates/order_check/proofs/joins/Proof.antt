@@ -9,9 +9,6 @@ use Rattle.rules.proofs.Tells.{tells-yes, tells-no, tells-so}
 use Rattle.order_check.proofs.joins.Statement.{statement}
 use Rattle.order_check.proofs.joins.Tie as tie
 
-client-requires : tie.Need-client-requires
-client-requires c κs = search needs
-
 returns : tie.Need-returns
 returns c =
     tells-no
@@ -65,7 +62,7 @@ pub joins-spec : {M : Type 1} → statement M
 joins-spec =
     tie.close
     (tie.spec
-    client-requires
+    (λ c κs. search needs)
     returns
     returns-2
     sub-count-end

@@ -10,11 +10,8 @@ put-text-requires c κs = search (room-first, needs)
 put-number-requires : tie.Need-put-number-requires
 put-number-requires c κs = search (room-next, needs)
 
-same-length : tie.Need-same-length
-same-length c = search needs
-
 returns : tie.Need-returns
 returns c = search (put-then, needs)
 
 pub put-field-spec : {M : Type 1} → statement M
-put-field-spec = tie.close (tie.spec put-text-requires put-number-requires same-length returns)
+put-field-spec = tie.close (tie.spec put-text-requires put-number-requires (λ c. search needs) returns)

@@ -19,36 +19,15 @@ abbrev μ-loop : tie.MeasureT-loop
 loop-holds : tie.Need-loop-holds Inv-loop μ-loop
 loop-holds c = search (begin, needs)
 
-shared-slice-read-if1 : tie.Need-shared-slice-read-if1 Inv-loop μ-loop
-shared-slice-read-if1 c = search needs
-
-nth-requires : tie.Need-nth-requires Inv-loop μ-loop
-nth-requires c κs = search needs
-
 put-number-requires : tie.Need-put-number-requires Inv-loop μ-loop
 put-number-requires c κs =
     let k = c .before .before .before .before in
     rw (c .nth .ensures) (mark-room (k .before .loop .inv) (k .loop-test .taken) (c .before .before .if1 .taken))
 
-add-k : tie.Need-add-k Inv-loop μ-loop
-add-k c = search needs
-
-shared-slice-read-out : tie.Need-shared-slice-read-out Inv-loop μ-loop
-shared-slice-read-out c = search needs
-
 slice-write-out : tie.Need-slice-write-out Inv-loop μ-loop
 slice-write-out c =
     let k = c .before .before .before in
     omega (arith, byte-room (k .before .loop .inv) (k .loop-test .taken) (c .before .if1 .left))
-
-add-i : tie.Need-add-i Inv-loop μ-loop
-add-i c = search needs
-
-add-j : tie.Need-add-j Inv-loop μ-loop
-add-j c = search needs
-
-loop-less : tie.Need-loop-less Inv-loop μ-loop
-loop-less c = search needs
 
 loop-again : tie.Need-loop-again Inv-loop μ-loop
 loop-again c =
@@ -71,15 +50,15 @@ put-form-spec =
     Inv-loop
     μ-loop
     loop-holds
-    shared-slice-read-if1
-    nth-requires
+    (λ c. search needs)
+    (λ c κs. search needs)
     put-number-requires
-    add-k
-    shared-slice-read-out
+    (λ c. search needs)
+    (λ c. search needs)
     slice-write-out
-    add-i
-    add-j
-    loop-less
+    (λ c. search needs)
+    (λ c. search needs)
+    (λ c. search needs)
     loop-again
     same-length
     returns)

@@ -19,26 +19,8 @@ loop-holds c = search (walk-first, needs)
 client-requires : tie.Need-client-requires Inv-loop μ-loop
 client-requires c κs = search (walk-low, needs)
 
-mul-out : tie.Need-mul-out Inv-loop μ-loop
-mul-out c = search needs
-
-mul-out-2 : tie.Need-mul-out-2 Inv-loop μ-loop
-mul-out-2 c = search needs
-
-slice-write-out : tie.Need-slice-write-out Inv-loop μ-loop
-slice-write-out c = search needs
-
 client-requires-2 : tie.Need-client-requires-2 Inv-loop μ-loop
 client-requires-2 c κs = search (walk-low, needs)
-
-mul-out-3 : tie.Need-mul-out-3 Inv-loop μ-loop
-mul-out-3 c = search needs
-
-add-out : tie.Need-add-out Inv-loop μ-loop
-add-out c = search needs
-
-mul-out-4 : tie.Need-mul-out-4 Inv-loop μ-loop
-mul-out-4 c = search needs
 
 slice-write-out-2 : tie.Need-slice-write-out-2 Inv-loop μ-loop
 slice-write-out-2 c = simp length-set (omega arith)
@@ -46,17 +28,8 @@ slice-write-out-2 c = simp length-set (omega arith)
 client-requires-3 : tie.Need-client-requires-3 Inv-loop μ-loop
 client-requires-3 c κs = search (walk-low, needs)
 
-add-i : tie.Need-add-i Inv-loop μ-loop
-add-i c = search needs
-
-loop-less : tie.Need-loop-less Inv-loop μ-loop
-loop-less c = search needs
-
 loop-again : tie.Need-loop-again Inv-loop μ-loop
 loop-again c = search (walk-next, needs)
-
-same-length : tie.Need-same-length Inv-loop μ-loop
-same-length c = search needs
 
 returns : tie.Need-returns Inv-loop μ-loop
 returns c = search (walk-done, needs)
@@ -69,17 +42,17 @@ list-spec =
     μ-loop
     loop-holds
     client-requires
-    mul-out
-    mul-out-2
-    slice-write-out
+    (λ c. search needs)
+    (λ c. search needs)
+    (λ c. search needs)
     client-requires-2
-    mul-out-3
-    add-out
-    mul-out-4
+    (λ c. search needs)
+    (λ c. search needs)
+    (λ c. search needs)
     slice-write-out-2
     client-requires-3
-    add-i
-    loop-less
+    (λ c. search needs)
+    (λ c. search needs)
     loop-again
-    same-length
+    (λ c. search needs)
     returns)

@@ -9,12 +9,6 @@ use Rattle.questions.proofs.list_from.Tie as tie
 header-requires : tie.Need-header-requires
 header-requires c κs = search (ready-sized, needs)
 
-cast-smaller : tie.Need-cast-smaller
-cast-smaller c = search needs
-
-smaller-requires : tie.Need-smaller-requires
-smaller-requires c κs = search needs
-
 mul-if1 : tie.Need-mul-if1
 mul-if1 c = search needs
 
@@ -37,9 +31,6 @@ list-requires c κs =
     let low = listing-low _ (start .pre .0) (s .before .header .ensures) (s .smaller .ensures) w (c .before .header2 .ensures) in
     (ready-sized (start .pre .0), ((way-link w, c .before .before .if1 .left), low))
 
-same-length : tie.Need-same-length
-same-length c = search needs
-
 returns-2 : tie.Need-returns-2
 returns-2 c =
     let h = c .before .before .before .before in
@@ -50,4 +41,4 @@ returns-2 c =
 pub list-from-spec : {M : Type 1} → statement M
 list-from-spec =
     tie.close
-    (tie.spec header-requires cast-smaller smaller-requires mul-if1 returns header-requires-2 list-requires same-length returns-2)
+    (tie.spec header-requires (λ c. search needs) (λ c κs. search needs) mul-if1 returns header-requires-2 list-requires (λ c. search needs) returns-2)

@@ -4,17 +4,8 @@ use Rattle.table.proofs.Write.{write-header}
 use Rattle.table.proofs.set_header.Statement.{statement}
 use Rattle.table.proofs.set_header.Tie as tie
 
-mul-t : tie.Need-mul-t
-mul-t c = search needs
-
-slice-write-t : tie.Need-slice-write-t
-slice-write-t c = search needs
-
-same-length : tie.Need-same-length
-same-length c = search needs
-
 returns : tie.Need-returns
 returns c = (write-header _ _ _ _ (search needs), search needs)
 
 pub set-header-spec : {M : Type 1} → statement M
-set-header-spec = tie.close (tie.spec mul-t slice-write-t same-length returns)
+set-header-spec = tie.close (tie.spec (λ c. search needs) (λ c. search needs) (λ c. search needs) returns)

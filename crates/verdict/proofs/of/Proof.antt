@@ -11,32 +11,14 @@ use borrow.Author.Needs.{needs}
 use Rattle.verdict.proofs.of.Statement.{statement}
 use Rattle.verdict.proofs.of.Tie as tie
 
-of-requires : tie.Need-of-requires
-of-requires c κs = search needs
-
 returns : tie.Need-returns
 returns c = ap opened.Refused (c .of .ensures) ∙ under-header _ (c .before .if1 .taken)
-
-shared-slice-read-if2 : tie.Need-shared-slice-read-if2
-shared-slice-read-if2 c = search needs
-
-of-requires-2 : tie.Need-of-requires-2
-of-requires-2 c κs = search needs
 
 returns-2 : tie.Need-returns-2
 returns-2 c = ap opened.Refused (c .of2 .ensures) ∙ other-mark _ (c .before .before .before .if1 .left) (c .before .if2 .taken)
 
-shared-slice-read-q : tie.Need-shared-slice-read-q
-shared-slice-read-q c = search needs
-
 cast-q : tie.Need-cast-q
 cast-q c = omega (arith, c .shared-slice-known3 .given kind.placesAt)
-
-in-range-requires : tie.Need-in-range-requires
-in-range-requires c κs = search needs
-
-of-requires-3 : tie.Need-of-requires-3
-of-requires-3 c κs = search needs
 
 returns-3 : tie.Need-returns-3
 returns-3 c =
@@ -46,9 +28,6 @@ returns-3 c =
 
 size-requires : tie.Need-size-requires
 size-requires c κs = range-decides _ .0 (sym (c .before .in-range .ensures) ∙ not-false _ (c .if3 .left)) .1
-
-of-requires-4 : tie.Need-of-requires-4
-of-requires-4 c κs = search needs
 
 returns-4 : tie.Need-returns-4
 returns-4 c =
@@ -71,9 +50,6 @@ whole-requires c κs =
       ((range-decides _ .0 r .0, i .before .before .before .before .before .before .pre), marked-part _ (i .before .before .before .before .if1 .left) (i .before .before .if2 .left) r _ (z .size .ensures) (c .before .if4 .left)),
     )
 
-of-requires-5 : tie.Need-of-requires-5
-of-requires-5 c κs = search needs
-
 returns-5 : tie.Need-returns-5
 returns-5 c =
     let w = c .before .before in
@@ -95,21 +71,21 @@ pub of-spec : {M : Type 1} → statement M
 of-spec =
     tie.close
     (tie.spec
-    of-requires
+    (λ c κs. search needs)
     returns
-    shared-slice-read-if2
-    of-requires-2
+    (λ c. search needs)
+    (λ c κs. search needs)
     returns-2
-    shared-slice-read-q
+    (λ c. search needs)
     cast-q
-    in-range-requires
-    of-requires-3
+    (λ c κs. search needs)
+    (λ c κs. search needs)
     returns-3
     size-requires
-    of-requires-4
+    (λ c κs. search needs)
     returns-4
     slice-aggregate-whole
     whole-requires
-    of-requires-5
+    (λ c κs. search needs)
     returns-5
     returns-6)

@@ -6,31 +6,16 @@ use borrow.Author.Needs.{needs}
 use Rattle.verdict.proofs.whole.Statement.{statement}
 use Rattle.verdict.proofs.whole.Tie as tie
 
-zeros-requires : tie.Need-zeros-requires
-zeros-requires c κs = search needs
-
 returns : tie.Need-returns
 returns c = zeros-fail _ (c .before .before .before .pre .1 .1 .1) (c .before .zeros .ensures) (c .if1 .taken)
 
-check-order-requires : tie.Need-check-order-requires
-check-order-requires c κs = search needs
-
 returns-2 : tie.Need-returns-2
 returns-2 c = clients-fail _ (c .before .before .before .before .before .pre .1 .1 .1) (c .before .check-order .ensures) (c .if2 .taken)
-
-header-requires : tie.Need-header-requires
-header-requires c κs = search needs
-
-check-lookup-requires : tie.Need-check-lookup-requires
-check-lookup-requires c κs = search needs
 
 returns-3 : tie.Need-returns-3
 returns-3 c =
     let h = c .before .before in
     lookup-fail _ (h .before .before .before .before .before .before .pre .1 .1 .1) _ (h .header .ensures) (c .before .check-lookup .ensures) (not-true _ (c .if3 .taken))
-
-check-items-requires : tie.Need-check-items-requires
-check-items-requires c κs = search needs
 
 returns-4 : tie.Need-returns-4
 returns-4 c =
@@ -46,12 +31,12 @@ pub whole-spec : {M : Type 1} → statement M
 whole-spec =
     tie.close
     (tie.spec
-    zeros-requires
+    (λ c κs. search needs)
     returns
-    check-order-requires
+    (λ c κs. search needs)
     returns-2
-    header-requires
-    check-lookup-requires
+    (λ c κs. search needs)
+    (λ c κs. search needs)
     returns-3
-    check-items-requires
+    (λ c κs. search needs)
     returns-4)

@@ -5,23 +5,11 @@ use Rattle.window.proofs.Writes.{enter-writes}
 use Rattle.window.proofs.enter_item.Statement.{statement}
 use Rattle.window.proofs.enter_item.Tie as tie
 
-push-item-requires : tie.Need-push-item-requires
-push-item-requires c κs = search needs
-
 insert-own-requires : tie.Need-insert-own-requires
 insert-own-requires c κs =
     let k1 = c .before .before .before in
     let s = k1 .before .before .before in
     (k1 .push-item .ensures .1, (s .pre .1 .0 .1, (s .pre .1 .0 .0, (s .pre .1 .1 .0, λ n. absurd (n refl)))))
-
-set-item-requires : tie.Need-set-item-requires
-set-item-requires c κs = search needs
-
-set-ticket-requires : tie.Need-set-ticket-requires
-set-ticket-requires c κs = search needs
-
-same-length : tie.Need-same-length
-same-length c = search needs
 
 returns : tie.Need-returns
 returns c =
@@ -35,9 +23,9 @@ pub enter-item-spec : {M : Type 1} → statement M
 enter-item-spec =
     tie.close
     (tie.spec
-    push-item-requires
+    (λ c κs. search needs)
     insert-own-requires
-    set-item-requires
-    set-ticket-requires
-    same-length
+    (λ c κs. search needs)
+    (λ c κs. search needs)
+    (λ c. search needs)
     returns)

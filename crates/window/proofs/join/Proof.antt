@@ -6,9 +6,6 @@ use Rattle.window.proofs.Shown.{free-row, requests-before, newest-link,
 use Rattle.window.proofs.join.Statement.{statement}
 use Rattle.window.proofs.join.Tie as tie
 
-header-requires : tie.Need-header-requires
-header-requires c κs = search needs
-
 take-item-requires : tie.Need-take-item-requires
 take-item-requires c κs = let s = c .before .before .before .before in (s .pre .0, free-row (s .pre .1 .1))
 
@@ -26,12 +23,6 @@ add-set-header c =
     let s = n .before .before .before in
     record { fits = omega (arith, n .header .ensures, requests-before (s .pre .1 .1), s .pre .0 .small) }
 
-set-header-requires : tie.Need-set-header-requires
-set-header-requires c κs = search needs
-
-same-length : tie.Need-same-length
-same-length c = search needs
-
 returns : tie.Need-returns
 returns c =
     let u = c .before .before in
@@ -46,10 +37,10 @@ pub join-spec : {M : Type 1} → statement M
 join-spec =
     tie.close
     (tie.spec
-    header-requires
+    (λ c κs. search needs)
     take-item-requires
     enter-item-requires
     add-set-header
-    set-header-requires
-    same-length
+    (λ c κs. search needs)
+    (λ c. search needs)
     returns)

@@ -18,9 +18,6 @@ leave-window-requires c κs =
     let s = k .before .before .before in
     (k .unlink-own .ensures .1, window-asks (s .pre .1) _ (one-writes (s .pre .0) (s .pre .1) (k .unlink-own .ensures .0)))
 
-same-length : tie.Need-same-length
-same-length c = search needs
-
 returns : tie.Need-returns
 returns c =
     let u = c .before .before in
@@ -29,4 +26,4 @@ returns c =
     (then (one-writes (s .pre .0) (s .pre .1) (k .unlink-own .ensures .0)) (u .leave-window .ensures .0), u .leave-window .ensures .1)
 
 pub leave-one-spec : {M : Type 1} → statement M
-leave-one-spec = tie.close (tie.spec unlink-own-requires leave-window-requires same-length returns)
+leave-one-spec = tie.close (tie.spec unlink-own-requires leave-window-requires (λ c. search needs) returns)

@@ -22,9 +22,6 @@ leave-window-requires c κs =
     let s = k1 .before .before .before in
     (k2 .set-client2 .ensures .1, window-asks (s .pre .1) _ (only-writes (s .pre .0) (s .pre .1) (k1 .set-client .ensures .0) (k2 .set-client2 .ensures .0)))
 
-same-length : tie.Need-same-length
-same-length c = search needs
-
 returns : tie.Need-returns
 returns c =
     let u = c .before .before in
@@ -36,4 +33,4 @@ returns c =
 pub leave-only-spec : {M : Type 1} → statement M
 leave-only-spec =
     tie.close
-    (tie.spec set-client-requires set-client-requires-2 leave-window-requires same-length returns)
+    (tie.spec set-client-requires set-client-requires-2 leave-window-requires (λ c. search needs) returns)
