@@ -110,15 +110,16 @@ module _ {q : ℕ} {t : List ℕ} (y : Ready q t) {b : Bool} (is : b ≡ full (l
       record { ready = y; room = open-place y is e; told = rw room; joins = λ id ticket. sym (slid-joined (picture t) id ticket room) }
 
   -- the front request left
-  pub made-room : {u : List ℕ} → b ≡ true → u ≡ draw (leave (picture t) (frontItem (picture t .window))) → Roomy q t u (lefts.One (asStruct (requestOf (picture t .clients) (frontItem (picture t .window)))))
+  pub made-room : {u : List ℕ} → b ≡ true → u ≡ draw (served (picture t)) → Roomy q t u (asLeft (history.served (plain (picture t))))
   made-room e d =
       let w = some-wait y is e in
       let j = front-step (picture t) (ready-right y) w in
+      let gone = d ∙ ap draw (served-front (picture t) (λ z. omega (arith, w, z))) in
       record {
-        ready = then-ready _ y j d;
-        room = then-room _ y j d;
-        told = rw (sym is ∙ e, front-request (picture t) (ready-right y) w);
-        joins = λ id ticket. ap (λ (J : Picture). join J id ticket) (then-picture _ y j d) ∙ sym (slid-passed (picture t) id ticket (sym is ∙ e));
+        ready = then-ready _ y j gone;
+        room = then-room _ y j gone;
+        told = rw (sym is ∙ e);
+        joins = λ id ticket. ap (λ (J : Picture). join J id ticket) (then-picture _ y j gone) ∙ sym (slid-passed (picture t) id ticket (sym is ∙ e));
       }
 
 -- and by how many wait

@@ -79,20 +79,6 @@ fn leave(t: &mut [u32], q: usize, s: &[u32; 1024], c: u32, n: u32, r: u32) -> Re
     Request { id, ticket }
 }
 
-// The front request leaves, where somebody waits.
-fn pass(t: &mut [u32], q: usize, s: &[u32; 1024]) -> Request
-    requires { ⌜ Ready q (now t) ⌝ }
-    requires { ⌜ IsSpread (now s) ⌝ }
-    requires { ⌜ 1 ≤ length (picture (now t) .window) ⌝ }
-    ensures { λ x. ⌜ x ≡ asStruct (requestOf (picture (now (t .entry)) .clients) (steps.frontItem (picture (now (t .entry)) .window))) ⌝ }
-    ensures { λ _. ⌜ now (t .exit) ≡ draw (steps.leave (picture (now (t .entry))) (steps.frontItem (picture (now (t .entry)) .window))) ⌝ }
-{
-    let r = table::header(t, q, LinkedTable::FRONT_AT);
-    let c = table::item(t, q, r, LinkedTable::OWNER);
-    let n = table::client(t, q, c, LinkedTable::COUNT);
-    leave(t, q, s, c, n, r)
-}
-
 // Arrive: the request joins; where the window is full, the newest of the heaviest client leaves first, or the arriving client is turned away.
 pub fn arrive(t: &mut [u32], q: usize, s: &[u32; 1024], id: u32, ticket: Ticket) -> Choice
     requires { ⌜ Ready q (now t) ⌝ }
@@ -117,21 +103,6 @@ pub fn arrive(t: &mut [u32], q: usize, s: &[u32; 1024], id: u32, ticket: Ticket)
     choice
 }
 
-// Slide: where the window is full, the front request leaves first; then the new one arrives, and joins, for there is room.
-pub fn slide(t: &mut [u32], q: usize, s: &[u32; 1024], id: u32, ticket: Ticket) -> Left
-    requires { ⌜ Ready q (now t) ⌝ }
-    requires { ⌜ IsSpread (now s) ⌝ }
-    ensures reply { λ x. ⌜ x ≡ asLeft (history.slideLeft (limitsOf (picture (now (t .entry)))) (plain (picture (now (t .entry))))) ⌝ }
-    ensures words { λ _. ⌜ now (t .exit) ≡ draw (steps.slid (picture (now (t .entry))) id ticket) ⌝ }
-{
-    let mut left = Left::Nothing;
-    if full(t, q) {
-        left = Left::One(pass(t, q, s));
-    }
-    arrive(t, q, s, id, ticket);
-    left
-}
-
 // Serve: the front request leaves and is the reply.
 pub fn serve(t: &mut [u32], q: usize, s: &[u32; 1024]) -> Left
     requires { ⌜ Ready q (now t) ⌝ }
@@ -142,5 +113,23 @@ pub fn serve(t: &mut [u32], q: usize, s: &[u32; 1024]) -> Left
     if table::header(t, q, LinkedTable::REQUESTS_AT) == 0 {
         return Left::Nothing;
     }
-    Left::One(pass(t, q, s))
+    let r = table::header(t, q, LinkedTable::FRONT_AT);
+    let c = table::item(t, q, r, LinkedTable::OWNER);
+    let n = table::client(t, q, c, LinkedTable::COUNT);
+    Left::One(leave(t, q, s, c, n, r))
+}
+
+// Slide: where the window is full, the front request leaves first, as if it was served; then the new one arrives, and joins, for there is room.
+pub fn slide(t: &mut [u32], q: usize, s: &[u32; 1024], id: u32, ticket: Ticket) -> Left
+    requires { ⌜ Ready q (now t) ⌝ }
+    requires { ⌜ IsSpread (now s) ⌝ }
+    ensures reply { λ x. ⌜ x ≡ asLeft (history.slideLeft (limitsOf (picture (now (t .entry)))) (plain (picture (now (t .entry))))) ⌝ }
+    ensures words { λ _. ⌜ now (t .exit) ≡ draw (steps.slid (picture (now (t .entry))) id ticket) ⌝ }
+{
+    let mut left = Left::Nothing;
+    if full(t, q) {
+        left = serve(t, q, s);
+    }
+    arrive(t, q, s, id, ticket);
+    left
 }

@@ -1,11 +1,11 @@
--- By whether anybody waits.
-use borrow.Author.Needs.{needs}
+-- By whether anybody waits; the front item leaves.
 use mathlib.Core.Path.{ap, _∙_}
+use borrow.Author.Needs.{needs}
 use lib.Dec.{lit<}
 use Rattle.rules.proofs.Ready.{ready-sized}
 use Rattle.answers.specs.declared.Left.the-variants as lefts
-use Rattle.steps.proofs.Reading.{requests-are}
 use Rattle.steps.proofs.Choices.{serve-idle, serve-some, serve-front}
+use Rattle.steps.proofs.Reading.{requests-are, waits-left, front-waits, front-low, front-owner, owner-low, owner-count}
 use Rattle.steps.proofs.serve.Statement.{statement}
 use Rattle.steps.proofs.serve.Tie as tie
 
@@ -20,21 +20,50 @@ returns c =
     let p = h .before .before .before .pre in
     serve-idle (p .0) (requests-are (p .0) (h .header .ensures)) (c .if1 .taken)
 
-pass-requires : tie.Need-pass-requires
-pass-requires c κs =
-    let i = c .before in
+header-requires-2 : tie.Need-header-requires-2
+header-requires-2 c κs =
+    let p = c .before .before .before .before .before .pre in
+    (ready-sized (p .0), lit< tt)
+
+item-requires : tie.Need-item-requires
+item-requires c κs =
+    let f = c .before in
+    let i = f .before .before in
     let h = i .before in
     let p = h .before .before .before .pre in
-    (p .0, (p .1, serve-some (p .0) (requests-are (p .0) (h .header .ensures)) (i .if1 .left)))
+    (ready-sized (p .0), (front-low (p .0) (serve-some (p .0) (requests-are (p .0) (h .header .ensures)) (i .if1 .left)) (f .header2 .ensures), lit< tt))
+
+client-requires : tie.Need-client-requires
+client-requires c κs =
+    let o = c .before in
+    let f = o .before .before in
+    let i = f .before .before in
+    let h = i .before in
+    let p = h .before .before .before .pre in
+    (ready-sized (p .0), (owner-low (p .0) (serve-some (p .0) (requests-are (p .0) (h .header .ensures)) (i .if1 .left)) (f .header2 .ensures) (o .item .ensures), lit< tt))
+
+leave-requires : tie.Need-leave-requires
+leave-requires c κs =
+    let n = c .before in
+    let o = n .before .before in
+    let f = o .before .before in
+    let i = f .before .before in
+    let h = i .before in
+    let p = h .before .before .before .pre in
+    let some = serve-some (p .0) (requests-are (p .0) (h .header .ensures)) (i .if1 .left) in
+    let e = f .header2 .ensures in
+    (p .0, (p .1, ((front-waits (p .0) some e .there, front-owner (p .0) some e (o .item .ensures)), owner-count (p .0) some e (o .item .ensures) (n .client .ensures))))
 
 returns-2 : tie.Need-returns-2
 returns-2 c =
-    let g = c .before .before in
-    let i = g .before .before in
+    let l = c .before .before in
+    let f = l .before .before .before .before .before .before in
+    let i = f .before .before in
     let h = i .before in
     let p = h .before .before .before .pre in
-    let r = serve-front (p .0) (requests-are (p .0) (h .header .ensures)) (i .if1 .left) (g .pass .ensures .1) in
-    (ap lefts.One (g .pass .ensures .0) ∙ r .0, r .1)
+    let left = waits-left (front-waits (p .0) (serve-some (p .0) (requests-are (p .0) (h .header .ensures)) (i .if1 .left)) (f .header2 .ensures)) (l .leave .ensures .0) (l .leave .ensures .1) in
+    let r = serve-front (p .0) (requests-are (p .0) (h .header .ensures)) (i .if1 .left) (left .1) in
+    (ap lefts.One (left .0) ∙ r .0, r .1)
 
 pub serve-spec : {M : Type 1} → statement M
-serve-spec = tie.close (tie.spec header-requires (λ c. search needs) returns pass-requires (λ c. search needs) returns-2)
+serve-spec = tie.close (tie.spec header-requires (λ c. search needs) returns header-requires-2 item-requires client-requires leave-requires (λ c. search needs) returns-2)
