@@ -16,7 +16,7 @@ use Rattle.rules.specs.Picture.{Client, clientRow, clientId, clientRows, plain}
 use Rattle.rules.specs.Sound.{picture}
 use Rattle.rules.specs.Ready.{Ready}
 use Rattle.rules.proofs.Choose.{either-way, side-by-side}
-use Rattle.rules.proofs.Rows.{all-reverse}
+use Rattle.rules.proofs.Rows.{all-reverse, all-take}
 use Rattle.rules.proofs.Put.{put-there, all-puts, take-all}
 use Rattle.rules.proofs.Right.{clients-distinct}
 use Rattle.rules.proofs.Plain.{clients-plain}
@@ -47,11 +47,6 @@ map-take f (suc k) (x ∷ xs) = ap (λ (l : List ℕ). f x ∷ l) (map-take f k 
 taken : {A : Type 0} (f : A → ℕ) (end k : ℕ) (xs : List A) → map f (take k (fromEnd end xs)) ≡ take k (fromEnd end (map f xs))
 taken f end k xs =
     map-take f k (fromEnd end xs) ∙ ap (take k) (side-by-side (map f) (eqb end kind.lightestAt) refl (map-reverseAux f xs []))
-
-all-take : {A : Type 0} (F : A → Type 0) (k : ℕ) (xs : List A) → All F xs → All F (take k xs)
-all-take F zero xs a = tt
-all-take F (suc k) [] a = tt
-all-take F (suc k) (x ∷ xs) a = (a .0, all-take F k xs (a .1))
 
 all-taken : {A : Type 0} (F : A → Type 0) (end k : ℕ) (xs : List A) → All F xs → All F (take k (fromEnd end xs))
 all-taken F end k xs a = all-take F k (fromEnd end xs) (either-way (All F) (eqb end kind.lightestAt) a (all-reverse F xs [] a tt))

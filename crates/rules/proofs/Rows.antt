@@ -7,7 +7,7 @@ use Prim.Native.Nat.{ℕ, zero, suc, _+_, _≤_, _<_}
 use native.Mathlib.Nat.{not-suc-le-zero, le-of-suc-le-suc}
 use native.Mathlib.Omega.{arith}
 use lib.Dec.{eqb}
-use lib.ListN.{length, length-append}
+use lib.ListN.{length, take, drop, length-append}
 use borrow.Author.Tests.{eqb-true, eqb-false, ne-eqb}
 use Rattle.table.specs.Regions.{upto}
 use Rattle.table.proofs.Draw.{length-upto}
@@ -255,6 +255,16 @@ all-snoc F (y ∷ xs) x a f = (a .0, all-snoc F xs x (a .1) f)
 pub all-reverse : {A : Type 0} (F : A → Type 0) (xs ys : List A) → All F xs → All F ys → All F (reverseAux xs ys)
 all-reverse F [] ys a b = b
 all-reverse F (x ∷ xs) ys a b = all-reverse F xs (x ∷ ys) (a .1) (a .0, b)
+
+pub all-take : {A : Type 0} (F : A → Type 0) (k : ℕ) (xs : List A) → All F xs → All F (take k xs)
+all-take F zero xs a = tt
+all-take F (suc k) [] a = tt
+all-take F (suc k) (x ∷ xs) a = (a .0, all-take F k xs (a .1))
+
+pub all-drop : {A : Type 0} (F : A → Type 0) (k : ℕ) (xs : List A) → All F xs → All F (drop k xs)
+all-drop F zero xs a = a
+all-drop F (suc k) [] a = tt
+all-drop F (suc k) (x ∷ xs) a = all-drop F k xs (a .1)
 
 pub map-snoc : {A B : Type 0} (f : A → B) (xs : List A) (x : A) → map f (xs ++ x ∷ []) ≡ map f xs ++ (f x ∷ [])
 map-snoc f [] x = refl

@@ -9,7 +9,7 @@ use borrow.Author.Tests.{eq-eqb, ne-eqb, lt-ltb, le-ltb}
 use Rattle.rules.specs.History.{Waiting, Limits}
 use Rattle.rules.specs.Picture.{Picture, plain, limitsOf}
 use Rattle.rules.specs.Commands.{Command, arriving, sliding, serving, Outcome, joined, evicted, turned, passed, served, idle, outcome, step, next}
-use Rattle.rules.specs.Run.{commandBytes, kindOf, idIn, ticketIn, known, commandOf, stop, carried, after, outcomes, nextAll, adds, total}
+use Rattle.rules.specs.Run.{commandBytes, kindOf, idIn, ticketIn, known, commandOf, stop, carried, after, outcomes, nextAll, Totals, adds, total}
 use Rattle.rules.specs.Sound.{Right}
 use Rattle.rules.proofs.Settle.{Step}
 use Rattle.rules.proofs.Steps.{arrive-step, slide-step, serve-step}
@@ -83,6 +83,11 @@ one-of-four idle = refl
 pub all-counted : (os : List Outcome) → total (λ k. k .joined) os + total (λ k. k .turned) os + total (λ k. k .served) os + total (λ k. k .idle) os ≡ length os
 all-counted [] = refl
 all-counted (o ∷ os) = omega (arith, one-of-four o, all-counted os)
+
+-- a total over outcomes and others behind them
+pub total-append : (f : Totals → ℕ) (os ps : List Outcome) → total f (os ++ ps) ≡ total f os + total f ps
+total-append f [] ps = omega arith
+total-append f (o ∷ os) ps = omega (arith, total-append f os ps)
 
 module _ (L : Limits) where
   -- each command comes to something

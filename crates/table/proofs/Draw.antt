@@ -66,7 +66,7 @@ set-append-add : (xs ys : List ℕ) (i v : ℕ) → set (xs ++ ys) (length xs + 
 set-append-add [] ys i v = rw zero-add
 set-append-add (x ∷ xs) ys i v = simp native.Mathlib.Nat.suc-add (ap (λ (l : List ℕ). x ∷ l) (set-append-add xs ys i v))
 
-append-set : (xs ys : List ℕ) (n i v : ℕ) → length xs ≡ n → set (xs ++ ys) (n + i) v ≡ xs ++ set ys i v
+pub append-set : (xs ys : List ℕ) (n i v : ℕ) → length xs ≡ n → set (xs ++ ys) (n + i) v ≡ xs ++ set ys i v
 append-set xs ys n i v e = rw (← e) (set-append-add xs ys i v)
 
 pub get-rows : (k q : ℕ) (g : ℕ → ℕ → ℕ) (r f : ℕ) → r < q → f < k → getD (rows k q g) (k * r + f) 0 ≡ g r f
