@@ -1,4 +1,4 @@
--- Document 01's number and values for each case of an answer: the refusal number, 0 for none, then the values, each 0 where there is none to give.
+-- The documents' number and values for each case of an answer: the refusal number, 0 for none, then the values, each 0 where there is none to give.
 use mathlib.Core.List.{List, [], _∷_}
 use Prim.Native.Nat.{ℕ}
 use Rattle.answers.specs.declared.Report.{Report}
@@ -16,6 +16,9 @@ use Rattle.answers.specs.declared.Told.{Told}
 use Rattle.answers.specs.declared.Told.the-variants as told
 use Rattle.answers.specs.declared.Ran.{Ran}
 use Rattle.answers.specs.declared.Ran.the-variants as ran
+use Rattle.answers.specs.declared.Replay.{Replay}
+use Rattle.answers.specs.declared.Replayed.{Replayed}
+use Rattle.answers.specs.declared.Replayed.the-variants as replayed
 
 -- arrive: which of the three happened, 1 joined, 2 evicted, 3 turned away; the request that left
 abbrev pub arrivedNumbers : Arrived → List ℕ
@@ -57,3 +60,18 @@ reportNumbers r = r .stop ∷ r .done ∷ r .joined ∷ r .evicted ∷ r .passed
 abbrev pub ranNumbers : Ran → List ℕ
 ranNumbers (ran.Reported r) = reportNumbers r
 ranNumbers (ran.Refused x) = x .number ∷ 0 ∷ 0 ∷ 0 ∷ 0 ∷ 0 ∷ 0 ∷ 0 ∷ []
+
+-- a replay: the stop, or the refusal in its place; how many blocks were replayed and commands carried out, and the six totals
+abbrev pub replayedNumbers : Replayed → List ℕ
+replayedNumbers (replayed.Reported r) =
+    r .report .stop
+    ∷ r .blocks
+    ∷ r .report .done
+    ∷ r .report .joined
+    ∷ r .report .evicted
+    ∷ r .report .passed
+    ∷ r .report .served
+    ∷ r .report .turned
+    ∷ r .report .idle
+    ∷ []
+replayedNumbers (replayed.Refused x) = x .number ∷ 0 ∷ 0 ∷ 0 ∷ 0 ∷ 0 ∷ 0 ∷ 0 ∷ 0 ∷ []

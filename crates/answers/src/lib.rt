@@ -24,6 +24,18 @@ impl Refusal {
 
     pub const OVERLONG: u32 = 9;
 
+    pub const FULL: u32 = 18;
+
+    pub const SHORT_BLOCK: u32 = 20;
+
+    pub const WRONG_CHECK: u32 = 21;
+
+    pub const WRONG_NUMBER: u32 = 22;
+
+    pub const WRONG_USE: u32 = 23;
+
+    pub const BAD_RECORDED: u32 = 24;
+
     // The refusal with a number.
     pub fn of(number: u32) -> Refusal
         ensures { λ r. ⌜ r ≡ refusal number ⌝ }
@@ -92,6 +104,12 @@ impl Report {
     pub const BAD_COMMAND: u32 = 8;
 }
 
+// What a replay reports: how many blocks it replayed, and of their commands what a run reports, with the replay's stop.
+pub struct Replay {
+    pub blocks: u64,
+    pub report: Report,
+}
+
 // The answers of the calls offered outside.
 pub enum Arrived {
     Joined,
@@ -128,6 +146,11 @@ pub enum Told {
 
 pub enum Ran {
     Reported(Report),
+    Refused(Refusal),
+}
+
+pub enum Replayed {
+    Reported(Replay),
     Refused(Refusal),
 }
 

@@ -10,6 +10,7 @@ use Rattle.boomspool.specs.declared.BoomspoolSlid.{BoomspoolSlid}
 use Rattle.boomspool.specs.declared.BoomspoolServed.{BoomspoolServed}
 use Rattle.boomspool.specs.declared.BoomspoolListed.{BoomspoolListed}
 use Rattle.boomspool.specs.declared.BoomspoolRan.{BoomspoolRan}
+use Rattle.boomspool.specs.declared.BoomspoolReplayed.{BoomspoolReplayed}
 use Rattle.boomspool.proofs.boomspool_words.Reads as words
 use Rattle.boomspool.proofs.boomspool_lay_out.Reads as lay-out
 use Rattle.boomspool.proofs.boomspool_arrive.Reads as arrive
@@ -22,6 +23,8 @@ use Rattle.boomspool.proofs.boomspool_oldest.Reads as oldest
 use Rattle.boomspool.proofs.boomspool_newest.Reads as newest
 use Rattle.boomspool.proofs.boomspool_run.Reads as run
 use Rattle.boomspool.proofs.boomspool_run_day.Reads as run-day
+use Rattle.boomspool.proofs.boomspool_record.Reads as record-one
+use Rattle.boomspool.proofs.boomspool_replay.Reads as replay
 
 pub words-once : (κs : Lfts 0) → OneOutcome (words.Post κs) (λ r s. r)
 words-once κs = one-outcome _ _ _ (λ a r s p. p)
@@ -58,3 +61,9 @@ run-once κs = one-outcome _ _ _ (λ a r s p. both (p .0) (p .1 .1))
 
 pub run-day-once : (κs : Lfts 3) → OneOutcome {O = BoomspoolRan × (List ℕ × List ℕ)} (run-day.Post κs) (λ r s. (r, (now (s .0), now (s .1 .1 .1 .0))))
 run-day-once κs = one-outcome _ _ _ (λ a r s p. both (p .0) (both (p .1 .1 .0) (p .1 .1 .1)))
+
+pub record-once : (κs : Lfts 1) → OneOutcome {O = ℕ × List ℕ} (record-one.Post κs) (λ r s. (r, now (s .0)))
+record-once κs = one-outcome _ _ _ (λ a r s p. both (p .0) (p .1))
+
+pub replay-once : (κs : Lfts 2) → OneOutcome {O = BoomspoolReplayed × List ℕ} (replay.Post κs) (λ r s. (r, now (s .0)))
+replay-once κs = one-outcome _ _ _ (λ a r s p. both (p .0) (p .1 .1))

@@ -1,4 +1,4 @@
--- The struct that the host gets for each answer of the limiter's calls, and its fields in document 01's order.
+-- The struct that the host gets for each answer of the limiter's calls, and its fields in the documents' order.
 -- Each begins with the refusal number, 0 for none; a field is 0 where the answer has nothing to give.
 use mathlib.Core.Bool.{cond}
 use mathlib.Core.List.{List, [], _∷_}
@@ -19,6 +19,9 @@ use Rattle.answers.specs.declared.Told.{Told}
 use Rattle.answers.specs.declared.Told.the-variants as told
 use Rattle.answers.specs.declared.Ran.{Ran}
 use Rattle.answers.specs.declared.Ran.the-variants as ran
+use Rattle.answers.specs.declared.Replay.{Replay}
+use Rattle.answers.specs.declared.Replayed.{Replayed}
+use Rattle.answers.specs.declared.Replayed.the-variants as replayed
 use Rattle.boomspool.specs.declared.BoomspoolArrived.{BoomspoolArrived}
 use Rattle.boomspool.specs.declared.BoomspoolSlid.{BoomspoolSlid}
 use Rattle.boomspool.specs.declared.BoomspoolServed.{BoomspoolServed}
@@ -26,6 +29,7 @@ use Rattle.boomspool.specs.declared.BoomspoolListed.{BoomspoolListed}
 use Rattle.boomspool.specs.declared.BoomspoolCounted.{BoomspoolCounted}
 use Rattle.boomspool.specs.declared.BoomspoolTold.{BoomspoolTold}
 use Rattle.boomspool.specs.declared.BoomspoolRan.{BoomspoolRan}
+use Rattle.boomspool.specs.declared.BoomspoolReplayed.{BoomspoolReplayed}
 
 -- the words that a table of q places takes, 0 where q is out of range
 abbrev pub wordsOf : ℕ → ℕ
@@ -92,3 +96,25 @@ ranStruct (ran.Refused x) = record { stop = x .number; done = 0; joined = 0; evi
 
 abbrev pub ranFields : BoomspoolRan → List ℕ
 ranFields r = r .stop ∷ r .done ∷ r .joined ∷ r .evicted ∷ r .passed ∷ r .served ∷ r .turned ∷ r .idle ∷ []
+
+-- a replay: the same, and how many blocks were replayed
+abbrev pub replayStruct : Replay → BoomspoolReplayed
+replayStruct r =
+    record {
+      stop = r .report .stop;
+      blocks = r .blocks;
+      done = r .report .done;
+      joined = r .report .joined;
+      evicted = r .report .evicted;
+      passed = r .report .passed;
+      served = r .report .served;
+      turned = r .report .turned;
+      idle = r .report .idle;
+    }
+
+abbrev pub replayedStruct : Replayed → BoomspoolReplayed
+replayedStruct (replayed.Reported r) = replayStruct r
+replayedStruct (replayed.Refused x) = record { stop = x .number; blocks = 0; done = 0; joined = 0; evicted = 0; passed = 0; served = 0; turned = 0; idle = 0 }
+
+abbrev pub replayedFields : BoomspoolReplayed → List ℕ
+replayedFields r = r .stop ∷ r .blocks ∷ r .done ∷ r .joined ∷ r .evicted ∷ r .passed ∷ r .served ∷ r .turned ∷ r .idle ∷ []

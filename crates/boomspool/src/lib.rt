@@ -8,22 +8,26 @@ ghost use Rattle.table.specs.Regions.{altered};
 ghost use Rattle.rules.specs.History as history;
 ghost use Rattle.rules.specs.Steps as steps;
 ghost use Rattle.rules.specs.Verdict.{layOutNumber, laidOut, afterwards};
-ghost use Rattle.answers.specs.Numbers.{arrivedNumbers, slidNumbers, servedNumbers, listedNumbers, countedNumbers, toldNumbers, ranNumbers};
+ghost use Rattle.answers.specs.Numbers.{arrivedNumbers, slidNumbers, servedNumbers, listedNumbers, countedNumbers, toldNumbers, ranNumbers, replayedNumbers};
 ghost use Rattle.day.specs.Day.{afterRun};
 ghost use Rattle.limiter.specs.Lent.{waitingIn, numbersOf};
 ghost use Rattle.limiter.specs.Questions.{listedAnswer, listedOut, listedNumber, countedAnswer, countedNumber, toldAnswer, toldNumber};
 ghost use Rattle.limiter.specs.Calls.{arriveChoice, arriveAnswer, arriveNumber, choiceValues, slideLeaves, slideAnswer, slideNumber, slideValues, serveAnswer, serveNumber, serveValues};
-ghost use Rattle.limiter.specs.Runs.{runAnswer, runWords};
-ghost use Rattle.boomspool.specs.Replies.{wordsOf, arrivedStruct, arrivedFields, slidStruct, slidFields, servedStruct, servedFields, listedStruct, listedFields, countedStruct, countedFields, toldStruct, toldFields, reportStruct, ranStruct, ranFields};
+ghost use Rattle.limiter.specs.Runs.{runAnswer, runWords, replayAnswer, replayWords};
+ghost use Rattle.recorder.specs.Record.{recordNumber, recordBlock};
+ghost use Rattle.boomspool.specs.Replies.{wordsOf, arrivedStruct, arrivedFields, slidStruct, slidFields, servedStruct, servedFields, listedStruct, listedFields, countedStruct, countedFields, toldStruct, toldFields, reportStruct, ranStruct, ranFields, replayStruct, replayedStruct, replayedFields};
 use answers::Arrived;
 use answers::Counted;
 use answers::Listed;
 use answers::Ran;
+use answers::Replay;
+use answers::Replayed;
 use answers::Report;
 use answers::Served;
 use answers::Slid;
 use answers::Told;
 use day::Day;
+use recording::Block;
 use table::LinkedTable;
 use table::Ticket;
 
@@ -78,6 +82,20 @@ pub struct BoomspoolTold {
 #[repr(C)]
 pub struct BoomspoolRan {
     pub stop: u32,
+    pub done: u64,
+    pub joined: u64,
+    pub evicted: u64,
+    pub passed: u64,
+    pub served: u64,
+    pub turned: u64,
+    pub idle: u64,
+}
+
+// What a replay reports: where it stopped, how many blocks it replayed and commands it carried out, and the six totals.
+#[repr(C)]
+pub struct BoomspoolReplayed {
+    pub stop: u32,
+    pub blocks: u64,
     pub done: u64,
     pub joined: u64,
     pub evicted: u64,
@@ -247,6 +265,43 @@ fn ran_reply(a: Ran) -> BoomspoolRan
     }
 }
 
+fn replayed(r: Replay) -> BoomspoolReplayed
+    ensures { λ x. ⌜ x ≡ replayStruct r ⌝ }
+{
+    BoomspoolReplayed {
+        stop: r.report.stop,
+        blocks: r.blocks,
+        done: r.report.done,
+        joined: r.report.joined,
+        evicted: r.report.evicted,
+        passed: r.report.passed,
+        served: r.report.served,
+        turned: r.report.turned,
+        idle: r.report.idle,
+    }
+}
+
+// A refused replay likewise.
+fn replayed_reply(a: Replayed) -> BoomspoolReplayed
+    ensures reply { λ r. ⌜ r ≡ replayedStruct a ⌝ }
+    ensures numbers { λ r. ⌜ replayedFields r ≡ replayedNumbers a ⌝ }
+{
+    match a {
+        Replayed::Reported(r) => replayed(r),
+        Replayed::Refused(x) => BoomspoolReplayed {
+            stop: x.number,
+            blocks: 0,
+            done: 0,
+            joined: 0,
+            evicted: 0,
+            passed: 0,
+            served: 0,
+            turned: 0,
+            idle: 0,
+        },
+    }
+}
+
 // The words that a table of q places takes, 0 where q is out of range.
 #[no_mangle]
 pub extern "C" fn boomspool_words(q: usize) -> usize
@@ -374,4 +429,29 @@ pub extern "C" fn boomspool_run_day(
     let r = limiter::run(t, commands, budget);
     day::bring_up(day, r);
     ran_reply(r)
+}
+
+// Records one command more in the block in the making, after so many: the number.
+#[no_mangle]
+pub extern "C" fn boomspool_record(
+    block: &mut [u8; Block::BYTES],
+    recorded: u64,
+    kind: u32,
+    id: u32,
+    ticket: u32,
+) -> u32
+    ensures number { λ r. ⌜ r ≡ recordNumber recorded kind id ticket ⌝ }
+    ensures bytes { λ _. ⌜ now (block .exit) ≡ recordBlock recorded kind id ticket (now (block .entry)) ⌝ }
+{
+    recorder::record(block, recorded, kind, id, ticket)
+}
+
+// Replays the blocks of a recording, of which the first must have that number, until one fails a test; the table is checked once.
+#[no_mangle]
+pub extern "C" fn boomspool_replay(t: &mut [u32], recording: &[u8], first: u64) -> BoomspoolReplayed
+    ensures reply { λ r. ⌜ r ≡ replayedStruct (replayAnswer first (now (recording .entry)) (now (t .entry))) ⌝ }
+    ensures numbers { λ r. ⌜ replayedFields r ≡ replayedNumbers (replayAnswer first (now (recording .entry)) (now (t .entry))) ⌝ }
+    ensures words { λ _. ⌜ now (t .exit) ≡ replayWords first (now (recording .entry)) (now (t .entry)) ⌝ }
+{
+    replayed_reply(limiter::replay(t, recording, first))
 }

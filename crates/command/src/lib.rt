@@ -68,3 +68,12 @@ pub fn known(c: Command) -> bool
     }
     c.ticket == 0
 }
+
+// The same without a branch, for whoever tests many: no processor foretells their kinds.
+pub fn known_unbranched(c: Command) -> bool
+    ensures { λ b. ⌜ b ≡ isKnown c ⌝ }
+{
+    let empty = (c.id == 0) & (c.ticket == 0);
+    (c.kind == Command::ARRIVE)
+        | ((c.kind == Command::SLIDE) | ((c.kind == Command::SERVE) & empty))
+}

@@ -10,6 +10,7 @@ use Rattle.answers.specs.declared.Arrived.{Arrived}
 use Rattle.answers.specs.declared.Slid.{Slid}
 use Rattle.answers.specs.declared.Served.{Served}
 use Rattle.answers.specs.declared.Ran.{Ran}
+use Rattle.answers.specs.declared.Replayed.{Replayed}
 use Rattle.limiter.proofs.heaviest.Reads as heaviest
 use Rattle.limiter.proofs.lightest.Reads as lightest
 use Rattle.limiter.proofs.count.Reads as count
@@ -19,6 +20,7 @@ use Rattle.limiter.proofs.arrive.Reads as arrive
 use Rattle.limiter.proofs.slide.Reads as slide
 use Rattle.limiter.proofs.serve.Reads as serve
 use Rattle.limiter.proofs.run.Reads as run
+use Rattle.limiter.proofs.replay.Reads as replay
 
 pub heaviest-once : (κs : Lfts 2) → OneOutcome {O = Listed × List ℕ} (heaviest.Post κs) (λ r s. (r, now (s .1 .1 .0)))
 heaviest-once κs = one-outcome _ _ _ (λ a r s p. both (p .0) (p .1 .1))
@@ -46,3 +48,6 @@ serve-once κs = one-outcome _ _ _ (λ a r s p. both (p .0) (p .1 .1 .0))
 
 pub run-once : (κs : Lfts 2) → OneOutcome {O = Ran × List ℕ} (run.Post κs) (λ r s. (r, now (s .0)))
 run-once κs = one-outcome _ _ _ (λ a r s p. both (p .0) (p .1))
+
+pub replay-once : (κs : Lfts 2) → OneOutcome {O = Replayed × List ℕ} (replay.Post κs) (λ r s. (r, now (s .0)))
+replay-once κs = one-outcome _ _ _ (λ a r s p. both (p .0) (p .1))

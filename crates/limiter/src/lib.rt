@@ -12,12 +12,13 @@ ghost use Rattle.answers.specs.Numbers.{arrivedNumbers, slidNumbers, servedNumb
 ghost use Rattle.limiter.specs.Lent.{waitingIn, numbersOf};
 ghost use Rattle.limiter.specs.Questions.{listedAnswer, listedOut, listedNumber, countedAnswer, countedNumber, toldAnswer, toldNumber};
 ghost use Rattle.limiter.specs.Calls.{arriveChoice, arriveAnswer, arriveNumber, choiceValues, slideLeaves, slideAnswer, slideNumber, slideValues, serveAnswer, serveNumber, serveValues};
-ghost use Rattle.limiter.specs.Runs.{runAnswer, runWords};
+ghost use Rattle.limiter.specs.Runs.{runAnswer, runWords, replayAnswer, replayWords};
 use answers::Arrived;
 use answers::Counted;
 use answers::Listed;
 use answers::Opened;
 use answers::Ran;
+use answers::Replayed;
 use answers::Served;
 use answers::Slid;
 use answers::Told;
@@ -183,6 +184,24 @@ pub fn run(t: &mut [u32], bytes: &[u8], budget: u64) -> Ran
             &s,
             bytes,
             budget,
+        )),
+    }
+}
+
+// Replays the blocks of a recording, of which the first must have that number, until one fails a test; the table is checked once.
+pub fn replay(t: &mut [u32], recording: &[u8], first: u64) -> Replayed
+    ensures reply { λ r. ⌜ r ≡ replayAnswer first (now (recording .entry)) (now (t .entry)) ⌝ }
+    ensures words { λ _. ⌜ now (t .exit) ≡ replayWords first (now (recording .entry)) (now (t .entry)) ⌝ }
+{
+    let s = spread::table();
+    match verdict::of(t, &s) {
+        Opened::Refused(r) => Replayed::Refused(r),
+        Opened::Table(q) => Replayed::Reported(replayer::replay(
+            &mut t[..LinkedTable::size(q)],
+            q,
+            &s,
+            recording,
+            first,
         )),
     }
 }

@@ -1,4 +1,4 @@
--- Document 01's refusal numbers and stops, each written down once.
+-- The documents' refusal numbers and stops, each written down once.
 use Prim.Native.Nat.{ℕ}
 
 -- a run's stops that are no refusals: no bytes left, and the budget is spent
@@ -42,3 +42,23 @@ badCommand = 8
 -- the printer's input is over-long
 abbrev pub overlong : ℕ
 overlong = 9
+
+-- recordings, document 02: the recording is full
+abbrev pub full : ℕ
+full = 18
+
+-- a block's tests, in their order: it is short, its check is wrong, its number is another, the number of its commands or an unused byte is wrong, it has a bad command
+abbrev pub shortBlock : ℕ
+shortBlock = 20
+
+abbrev pub wrongCheck : ℕ
+wrongCheck = 21
+
+abbrev pub wrongNumber : ℕ
+wrongNumber = 22
+
+abbrev pub wrongUse : ℕ
+wrongUse = 23
+
+abbrev pub badRecorded : ℕ
+badRecorded = 24

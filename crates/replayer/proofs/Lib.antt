@@ -1,0 +1,4 @@
+-- Laws of a replay.
+pub mod Tests
+pub mod Totals
+pub mod Replaying

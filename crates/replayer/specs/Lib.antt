@@ -1,0 +1,2 @@
+-- What a replay reports.
+pub mod Replays
