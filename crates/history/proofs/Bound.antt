@@ -1,4 +1,4 @@
--- Demand 3: an arrive and a slide alter at most 48 words each, a serve 24, a run 48 for each command that it carries out, a question none, a lay-out the words of its table at most: whatever slice they are made on and however many of its words they are lent.
+-- Demand 3: an arrive and a slide alter at most 48 words each, a serve 24, a run or a replay 48 for each command that it carries out, a question none, a lay-out the words of its table at most: whatever slice they are made on and however many of its words they are lent.
 use mathlib.Core.Bool.{Bool, true, false, cond}
 use mathlib.Core.List.{List, [], _∷_, _++_}
 use mathlib.Core.Path.{_≡_, refl, sym, ap, _∙_, subst}
@@ -16,7 +16,7 @@ use Rattle.rules.specs.History.{Limits}
 use Rattle.rules.specs.Picture.{Picture}
 use Rattle.rules.specs.Steps.{empty}
 use Rattle.rules.specs.Commands.{Command, arriving, sliding, serving, next}
-use Rattle.rules.specs.Run.{carried, nextAll}
+use Rattle.rules.specs.Run.{nextAll}
 use Rattle.rules.specs.Draw.{draw}
 use Rattle.rules.specs.Sound.{picture}
 use Rattle.rules.specs.Ready.{Ready}
@@ -27,7 +27,7 @@ use Rattle.layout.proofs.After.{laid-is}
 use Rattle.layout.proofs.After as after-lay-out
 use Rattle.limiter.specs.Lent.{lent}
 use Rattle.limiter.proofs.Lent.{accepted}
-use Rattle.history.specs.Plain.{Call, carry, run, ask, layOut, Lent}
+use Rattle.history.specs.Plain.{Call, carry, run, replay, ask, layOut, Lent, carriedBy}
 use Rattle.history.specs.Words.{words, sliceAfter, mostAltered}
 use Rattle.history.proofs.Drawn.{drawn-long}
 use Rattle.history.proofs.Call.{command-words, lay-out-stays}
@@ -92,6 +92,9 @@ few-after k cs few t = go (eqb (verdict t) 0) refl
         (drawn-long (nextAll (lent t) cs) ∙ ap (λ (L : Limits). kind.size (L .places)) s ∙ ap kind.size (y .places) ∙ sym (ready-sized y .long), few _ _ y)
     go false e = few-same k t
 
+few-carried : (cs : List Command) (t : List ℕ) → Few (48 * length cs) t (afterwards (λ P. nextAll P cs) t)
+few-carried cs t = few-after (48 * length cs) cs (λ q t y. all-few y cs) t
+
 -- a lay-out
 few-laid : (q : ℕ) (t : List ℕ) → Few (kind.size q) t (words (layOut q) t)
 few-laid q t = go (eqb (layOutNumber q (length t)) 0) refl
@@ -107,9 +110,13 @@ few-laid q t = go (eqb (layOutNumber q (length t)) 0) refl
 
 few-words : (c : Call) (t : List ℕ) → Few (mostAltered c) t (words c t)
 few-words (carry c) t = subst (Few (mostAltered (carry c)) t) (sym (command-words c t)) (few-after (mostAltered (carry c)) (c ∷ []) (λ q t y. next-few y c) t)
-few-words (run day bytes budget) t = few-after (48 * length (carried budget bytes)) (carried budget bytes) (λ q t y. all-few y (carried budget bytes)) t
+few-words (run day bytes budget) t = few-carried (carriedBy (run day bytes budget)) t
+few-words (replay bytes first) t = few-carried (carriedBy (replay bytes first)) t
 few-words (ask x) t = few-same 0 t
 few-words (layOut q) t = few-laid q t
+
+pub words-long : (c : Call) (t : List ℕ) → length (words c t) ≡ length t
+words-long c t = few-words c t .0
 
 pub few-altered : (l : Lent) (t : List ℕ) → altered t (sliceAfter l t) ≤ mostAltered (l .call)
 few-altered l t = few-front (l .words) t (words (l .call) (take (l .words) t)) (few-words (l .call) (take (l .words) t)) .1

@@ -16,7 +16,7 @@ use Rattle.rules.specs.History.{Limits}
 use Rattle.rules.specs.Picture.{Picture, limitsOf}
 use Rattle.rules.specs.Steps.{empty}
 use Rattle.rules.specs.Commands.{Command, arriving, sliding, serving}
-use Rattle.rules.specs.Run.{carried, nextAll}
+use Rattle.rules.specs.Run.{nextAll}
 use Rattle.rules.specs.Draw.{draw}
 use Rattle.rules.specs.Sound.{Right}
 use Rattle.rules.specs.Verdict.{verdict, afterwards, layOutNumber, laidOut}
@@ -25,7 +25,7 @@ use Rattle.rules.proofs.Run.{all-step}
 use Rattle.rules.proofs.Empty.{empty-right}
 use Rattle.layout.proofs.After.{accepted, laid-is}
 use Rattle.limiter.specs.Lent.{waitingIn, limitsIn, orRefused}
-use Rattle.history.specs.Plain.{Question, heaviest, lightest, count, oldest, newest, Call, carry, run, ask, layOut, Lent, lent, Reply, arrived, slid, served, ran, listed, counted, told, laid, Says, commandSays, runSays, questionSays, State, state, short, saidOf, carriedOn, plainAnswer, plainNext}
+use Rattle.history.specs.Plain.{Question, heaviest, lightest, count, oldest, newest, Call, carry, run, replay, ask, layOut, Lent, lent, Reply, arrived, slid, served, ran, replayed, listed, counted, told, laid, Says, commandSays, runSays, replaySays, questionSays, State, state, short, saidOf, carriedOn, carriedBy, plainAnswer, plainNext}
 use Rattle.history.specs.Words.{reply, words, sliceAfter, Slice, drawnOut, stateOf, carriedIn, pictureNext}
 use Rattle.history.proofs.Drawn.{drawn-long, long, drawn-accepted, drawn-found, drawn-after, short-refused, refused-stay, all-stay}
 
@@ -82,13 +82,16 @@ fewer-short w m size h l =
       | no g ↦ (let k : m ≤ w = omega (arith, g) in omega (arith, min-eq-right k))
     ]
 
--- a call that is no lay-out: it has k to say, and carries out cs
-record Carrying (c : Call) (k : Says) (cs : List Command) : Type 0 where
+-- a call that is no lay-out: it has k to say, and leaves what its commands leave
+record Carrying (c : Call) (k : Says) : Type 0 where
   pub says : (t : List ℕ) → reply c t ≡ saidIn k t
-  pub leaves : (t : List ℕ) → words c t ≡ afterwards (λ P. nextAll P cs) t
+  pub leaves : (t : List ℕ) → words c t ≡ afterwards (λ P. nextAll P (carriedBy c)) t
 
 -- w words of a slice are lent to it
-module _ (S : Slice) (v : Right (S .picture)) (w : ℕ) (c : Call) (k : Says) (cs : List Command) (p : Carrying c k cs) where
+module _ (S : Slice) (v : Right (S .picture)) (w : ℕ) (c : Call) (k : Says) (p : Carrying c k) where
+  abbrev cs : List Command
+  cs = carriedBy c
+
   abbrev P : Picture
   P = S .picture
 
@@ -193,10 +196,10 @@ pub comes : (S : Slice) → Right (S .picture) → (l : Lent) → Comes S l
 comes S v l = go (l .call) (l .words)
   where
     go : (c : Call) (w : ℕ) → Comes S (lent w c)
-    go (carry c) w = carries S v w (carry c) (commandSays c) (c ∷ []) (record { says = command-said c; leaves = command-words c })
-    go (run day bytes budget) w =
-        carries S v w (run day bytes budget) (runSays bytes budget) (carried budget bytes) (record { says = λ t. side-by-side ran (eqb (verdict t) 0) refl refl; leaves = λ t. refl })
+    go (carry c) w = carries S v w (carry c) (commandSays c) (record { says = command-said c; leaves = command-words c })
+    go (run day bytes budget) w = carries S v w (run day bytes budget) (runSays bytes budget) (record { says = λ t. side-by-side ran (eqb (verdict t) 0) refl refl; leaves = λ t. refl })
+    go (replay bytes first) w = carries S v w (replay bytes first) (replaySays bytes first) (record { says = λ t. side-by-side replayed (eqb (verdict t) 0) refl refl; leaves = λ t. refl })
     go (ask x) w =
-        let k = carries S v w (ask x) (questionSays x) [] (record { says = question-said x; leaves = λ t. sym (all-stay (λ P. P) t refl) }) in
+        let k = carries S v w (ask x) (questionSays x) (record { says = question-said x; leaves = λ t. sym (all-stay (λ P. P) t refl) }) in
         record { answers = k .answers; leaves = take-append-drop w (drawnOut S); long = refl; right = v; goes = refl }
     go (layOut q) w = lays-out S v w q

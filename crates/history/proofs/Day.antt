@@ -14,13 +14,14 @@ use Rattle.rules.specs.Commands.{Outcome}
 use Rattle.rules.specs.Run.{carried, outcomes, Totals, total}
 use Rattle.rules.specs.Sound.{Right}
 use Rattle.rules.specs.Verdict.{layOutNumber, laidOut}
+use Rattle.rules.proofs.Run.{total-append}
 use Rattle.answers.specs.Offered.{refusal}
 use Rattle.answers.specs.declared.Ran.{Ran}
 use Rattle.answers.specs.declared.Ran.the-variants as runTells
 use Rattle.layout.proofs.After.{laid-is}
 use Rattle.run.specs.Runs.{reportOf}
 use Rattle.day.specs.Day.{largest, sumOf, added, afterRun}
-use Rattle.history.specs.Plain.{Call, carry, run, ask, layOut, Lent, lent, ran, State, start, short, plainNext}
+use Rattle.history.specs.Plain.{Call, carry, run, replay, ask, layOut, Lent, lent, ran, State, start, short, plainNext}
 use Rattle.history.specs.Words.{Slice, drawnOut, stateOf, fresh, pictureNext}
 use Rattle.history.specs.Day.{dayStep, dayAfter, recordedBy, recorded, inOrder, dayTotals}
 use Rattle.history.proofs.Call.{Comes, comes}
@@ -43,10 +44,6 @@ capped-twice m a b c =
 
 capped-none : (m a : ℕ) → a ≤ m → capped m a 0 ≡ a
 capped-none m a h = rw (le-leb (a + 0) m (omega arith)) (omega arith)
-
-total-append : (f : Totals → ℕ) (os ps : List Outcome) → total f (os ++ ps) ≡ total f os + total f ps
-total-append f [] ps = omega arith
-total-append f (o ∷ os) ps = omega (arith, total-append f os ps)
 
 -- more of some totals, and then more
 module _ (os ps : List Outcome) where
@@ -91,6 +88,7 @@ module _ (d : List ℕ) (os : List Outcome) where
       go (run true bytes budget) w =
           run-brought (short (min w (length (drawnOut S))) (stateOf S)) (stateOf S) bytes budget number.tooShort (comes S v (lent w (run true bytes budget)) .answers)
       go (run false bytes budget) w = none-brought
+      go (replay bytes first) w = none-brought
       go (ask x) w = none-brought
       go (layOut q) w = none-brought
 

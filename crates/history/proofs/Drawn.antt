@@ -1,14 +1,14 @@
 -- Lent words that begin with the drawing of a right picture: no call refuses them, and it finds that picture in them; a part that is too short is refused with 2. And words that a step leaves as they are.
 use mathlib.Core.Bool.{Bool, true, false, cond}
 use mathlib.Core.List.{List, _++_}
-use mathlib.Core.Path.{_≡_, refl, sym, ap, _∙_}
+use mathlib.Core.Path.{_≡_, refl, sym, ap, _∙_, subst}
 use Prim.Native.Nat.{ℕ, _≤_, _<_}
 use native.Mathlib.Decide.{decLt}
 use native.Mathlib.Omega.{arith}
 use lib.Dec.{lit<, eqb}
 use lib.ListN.{length, getD, take, drop, length-append, List·getD-append, take-append-drop}
 use lib.Seq.{take-at, drop-at, length-take-le, getD-take}
-use borrow.Author.Tests.{le-ltb, lt-ltb, eqb-true, ne-eqb}
+use borrow.Author.Tests.{le-ltb, lt-ltb, eqb-true, eqb-false, ne-eqb}
 use Rattle.table.specs.Kind as kind
 use Rattle.table.specs.Regions.{words}
 use Rattle.table.proofs.Draw.{length-words, get-header}
@@ -19,7 +19,7 @@ use Rattle.rules.specs.Sound.{Right}
 use Rattle.rules.specs.Verdict.{room, verdict, afterwards}
 use Rattle.rules.proofs.Decide.{range-decides}
 use Rattle.rules.proofs.Sound.{picture-draw, draw-sound}
-use Rattle.rules.proofs.Ready.{ready-drawn}
+use Rattle.rules.proofs.Ready.{ready-right, ready-drawn}
 use Rattle.limiter.specs.Lent.{lent}
 use Rattle.limiter.proofs.Lent.{accepted}
 
@@ -77,7 +77,18 @@ module _ (P : Picture) (v : Right P) (rest : List ℕ) where
               rw (part-long, le-ltb n kind.headerWords (omega (arith, g)), getD-take n t kind.markAt 0 (omega (arith, g)), getD-take n t kind.placesAt 0 (omega (arith, g)), mark, places, in-range, lt-ltb n (kind.size (P .places)) h)
         ]
 
--- any words: as they were where the table is refused, and where the step leaves the picture in them
+-- any words: they begin with the drawing of a right picture, or are refused
+accepted-drawn : (t : List ℕ) → verdict t ≡ 0 → t ≡ draw (lent t) ++ drop (room t) t
+accepted-drawn t e = sym (take-append-drop (room t) t) ∙ ap (λ (u : List ℕ). u ++ drop (room t) t) (ready-drawn (accepted t e .ready))
+
+pub on-any : (F : List ℕ → Type 0) → ((P : Picture) → Right P → (rest : List ℕ) → F (draw P ++ rest)) → ((t : List ℕ) → (verdict t ≡ 0 → ⊥) → F t) → (t : List ℕ) → F t
+on-any F drawing refused t = go (eqb (verdict t) 0) refl
+  where
+    go : (b : Bool) → eqb (verdict t) 0 ≡ b → F t
+    go true e = let z = eqb-true (verdict t) 0 e in subst F (sym (accepted-drawn t z)) (drawing (lent t) (ready-right (accepted t z .ready)) (drop (room t) t))
+    go false e = refused t (eqb-false (verdict t) 0 e)
+
+-- as they were where the table is refused, and where the step leaves the picture in them
 module _ (f : Picture → Picture) (t : List ℕ) where
   pub refused-stay : (verdict t ≡ 0 → ⊥) → afterwards f t ≡ t
   unfolding afterwards
@@ -88,8 +99,5 @@ module _ (f : Picture → Picture) (t : List ℕ) where
   all-stay e = go (eqb (verdict t) 0) refl
     where
       go : (b : Bool) → eqb (verdict t) 0 ≡ b → cond b (draw (f (lent t)) ++ drop (room t) t) t ≡ t
-      go true z =
-          ap (λ (P : Picture). draw P ++ drop (room t) t) e
-          ∙ ap (λ (u : List ℕ). u ++ drop (room t) t) (sym (ready-drawn (accepted t (eqb-true (verdict t) 0 z) .ready)))
-          ∙ take-append-drop (room t) t
+      go true z = ap (λ (P : Picture). draw P ++ drop (room t) t) e ∙ sym (accepted-drawn t (eqb-true (verdict t) 0 z))
       go false z = refl

@@ -1,4 +1,4 @@
--- Sharing, over any history of calls: no arrival turns away or evicts a client whose waiting requests times the clients waiting come to less than the window; a single arrive by its reply, and one that a run carries out by what it comes to at its place.
+-- Sharing, over any history of calls: no arrival turns away or evicts a client whose waiting requests times the clients waiting come to less than the window; a single arrive by its reply, and one that a run or a replay carries out by what it comes to at its place.
 use mathlib.Core.Bool.{Bool, true, false, cond}
 use mathlib.Core.List.{List, _∷_, _++_}
 use mathlib.Core.Path.{_≡_, refl, sym, ap, _∙_, subst}
@@ -9,7 +9,7 @@ use Rattle.rules.specs.History as history
 use Rattle.rules.specs.History.{Request, Choice, request, count, choice}
 use Rattle.rules.specs.Commands as commands
 use Rattle.rules.specs.Commands.{Command, arriving, outcome, step, ofChoice}
-use Rattle.rules.specs.Run.{carried, after, outcomes, nextAll}
+use Rattle.rules.specs.Run.{after, outcomes, nextAll}
 use Rattle.rules.specs.Verdict.{layOutNumber, laidOut}
 use Rattle.rules.proofs.Sharing.{Fair, right-fair, turned-share, evicted-share}
 use Rattle.rules.proofs.Run.{all-step, outcomes-append}
@@ -18,7 +18,7 @@ use Rattle.answers.specs.Offered.{arrivedOf}
 use Rattle.answers.specs.declared.Request as code
 use Rattle.answers.specs.declared.Refusal.{Refusal}
 use Rattle.answers.specs.declared.Arrived.the-variants as tells
-use Rattle.history.specs.Plain.{Lent, lent, carry, arrived, State, state, short}
+use Rattle.history.specs.Plain.{Call, carry, Lent, lent, arrived, State, state, short, carriedBy}
 use Rattle.history.specs.Words.{reply, tableAfter}
 use Rattle.history.proofs.Unaltered.{turned-away}
 use Rattle.history.proofs.History as history-after
@@ -89,14 +89,14 @@ module _ (q : ℕ) (w : List ℕ) (laid : layOutNumber q (length w) ≡ 0) (call
       let g = chosen-evicted (short (min n (length w)) now) _ _ r (sym (next-reply q w laid calls (lent n (carry (arriving (request j ticket))))) ∙ e) in
       not-evicted now now-fair i light j (g .request) (g .is) (g .named ∙ named)
 
-  -- an arrival that a run carries out after the commands before it
-  module _ (bytes : List ℕ) (budget : ℕ) (before later : List Command) (r : Request) (inside : carried budget bytes ≡ before ++ arriving r ∷ later) where
+  -- an arrival that a call, a run or a replay, carries out after the commands before it
+  module _ (c : Call) (before later : List Command) (r : Request) (inside : carriedBy c ≡ before ++ arriving r ∷ later) where
     -- the plain history at its place
     abbrev pub place : State
     place = state (now .limits) (after (now .limits) (now .waiting) before)
 
-    -- what the run's commands come to: in the middle, what it comes to there
-    pub its-outcome : outcomes (now .limits) (now .waiting) (carried budget bytes)
+    -- what the call's commands come to: in the middle, what it comes to there
+    pub its-outcome : outcomes (now .limits) (now .waiting) (carriedBy c)
         ≡ outcomes (now .limits) (now .waiting) before ++ outcome (place .limits) (place .waiting) (arriving r) ∷ outcomes (now .limits) (step (place .limits) (place .waiting) (arriving r)) later
     its-outcome = ap (outcomes (now .limits) (now .waiting)) inside ∙ outcomes-append (now .limits) (now .waiting) before (arriving r ∷ later)
 
@@ -106,8 +106,8 @@ module _ (q : ℕ) (w : List ℕ) (laid : layOutNumber q (length w) ≡ 0) (call
         let k = all-step P (the-right q w laid calls) before in
         subst Fair (k .plain ∙ (λ i. after (the-state q w laid calls i .limits) (the-state q w laid calls i .waiting) before)) (right-fair (nextAll P before) (k .right))
 
-    pub run-never-turns-away : Light (r .id) place → outcome (place .limits) (place .waiting) (arriving r) ≡ commands.turned → ⊥
-    run-never-turns-away light e = not-turned place place-fair (r .id) light (outcome-turned _ e)
+    pub inside-never-turned-away : Light (r .id) place → outcome (place .limits) (place .waiting) (arriving r) ≡ commands.turned → ⊥
+    inside-never-turned-away light e = not-turned place place-fair (r .id) light (outcome-turned _ e)
 
-    pub run-never-evicts : (i : ℕ) → Light i place → (x : Request) → outcome (place .limits) (place .waiting) (arriving r) ≡ commands.evicted x → x .id ≡ i → ⊥
-    run-never-evicts i light x e named = not-evicted place place-fair i light (r .id) x (outcome-evicted _ x e) named
+    pub inside-never-evicted : (i : ℕ) → Light i place → (x : Request) → outcome (place .limits) (place .waiting) (arriving r) ≡ commands.evicted x → x .id ≡ i → ⊥
+    inside-never-evicted i light x e named = not-evicted place place-fair i light (r .id) x (outcome-evicted _ x e) named

@@ -11,7 +11,7 @@ use Rattle.rules.specs.History as history
 use Rattle.rules.specs.History.{Request, Choice, Left, nothing, front, choice}
 use Rattle.rules.specs.Picture.{Item, requestOf}
 use Rattle.rules.specs.Steps as steps
-use Rattle.rules.specs.Run.{carried, nextAll}
+use Rattle.rules.specs.Run.{nextAll}
 use Rattle.rules.specs.Verdict.{verdict, afterwards, layOutNumber}
 use Rattle.answers.specs.Engine.{asChoice, asLeft}
 use Rattle.answers.specs.Offered.{refusal, arrivedOf, servedOf}
@@ -20,7 +20,7 @@ use Rattle.answers.specs.declared.Arrived.the-variants as arriveTells
 use Rattle.answers.specs.declared.Served.the-variants as serveTells
 use Rattle.limiter.specs.Lent.{lent, limitsIn, waitingIn}
 use Rattle.limiter.specs.Calls.{arriveAnswer, serveAnswer}
-use Rattle.history.specs.Plain.{Question, Call, carry, run, ask, layOut}
+use Rattle.history.specs.Plain.{Question, Call, carry, run, replay, ask, layOut, carriedBy}
 use Rattle.history.specs.Words.{words}
 use Rattle.history.proofs.Drawn.{refused-stay, all-stay}
 use Rattle.history.proofs.Call.{command-words, lay-out-stays}
@@ -69,7 +69,8 @@ module _ (t : List ℕ) where
   -- any call but a lay-out where the table is refused
   pub refused-stays : (verdict t ≡ 0 → ⊥) → (c : Call) → ((q : ℕ) → c ≡ layOut q → ⊥) → words c t ≡ t
   refused-stays n (carry c) other = command-words c t ∙ refused-stay _ t n
-  refused-stays n (run day bytes budget) other = refused-stay (λ P. nextAll P (carried budget bytes)) t n
+  refused-stays n (run day bytes budget) other = refused-stay (λ P. nextAll P (carriedBy (run day bytes budget))) t n
+  refused-stays n (replay bytes first) other = refused-stay (λ P. nextAll P (carriedBy (replay bytes first))) t n
   refused-stays n (ask x) other = refl
   refused-stays n (layOut q) other = absurd (other q refl)
 

@@ -7,13 +7,14 @@ use Rattle.rules.specs.Commands.{Outcome}
 use Rattle.rules.specs.Run.{carried, outcomes, Totals, total}
 use Rattle.limiter.specs.Runs.{runAnswer}
 use Rattle.day.specs.Day.{afterRun}
-use Rattle.history.specs.Plain.{Call, carry, run, ask, layOut, Lent, State, short, plainNext}
+use Rattle.history.specs.Plain.{Call, carry, run, replay, ask, layOut, Lent, State, short, plainNext}
 use Rattle.history.specs.Words.{sliceAfter}
 
 -- the record d after a call that is lent the words t
 abbrev pub dayStep : Call → List ℕ → List ℕ → List ℕ
 dayStep (carry c) d t = d
 dayStep (run day bytes budget) d t = cond day (afterRun d (runAnswer budget bytes t)) d
+dayStep (replay bytes first) d t = d
 dayStep (ask x) d t = d
 dayStep (layOut q) d t = d
 
@@ -26,6 +27,7 @@ dayAfter (l ∷ ls) d t = dayAfter ls (dayStep (l .call) d (take (l .words) t)) 
 abbrev pub recordedBy : ℕ → State → Call → List Outcome
 recordedBy n s (carry c) = []
 recordedBy n s (run day bytes budget) = cond day (cond (short n s) [] (outcomes (s .limits) (s .waiting) (carried budget bytes))) []
+recordedBy n s (replay bytes first) = []
 recordedBy n s (ask x) = []
 recordedBy n s (layOut q) = []
 

@@ -22,6 +22,8 @@ use Rattle.answers.specs.declared.Served.{Served}
 use Rattle.answers.specs.declared.Served.the-variants as serveTells
 use Rattle.answers.specs.declared.Ran.{Ran}
 use Rattle.answers.specs.declared.Ran.the-variants as runTells
+use Rattle.answers.specs.declared.Replayed.{Replayed}
+use Rattle.answers.specs.declared.Replayed.the-variants as replayTells
 use Rattle.answers.specs.declared.Listed.{Listed}
 use Rattle.answers.specs.declared.Listed.the-variants as listTells
 use Rattle.answers.specs.declared.Counted.{Counted}
@@ -29,7 +31,9 @@ use Rattle.answers.specs.declared.Counted.the-variants as countTells
 use Rattle.answers.specs.declared.Told.{Told}
 use Rattle.answers.specs.declared.Told.the-variants as ticketTells
 use Rattle.questions.specs.Output.{listedWords}
+use Rattle.recording.specs.Replay as recording
 use Rattle.run.specs.Runs.{reportOf}
+use Rattle.replayer.specs.Replays.{replayOf}
 
 -- a question: the listings of k clients into an output that held these words, and the questions on an id
 pub data Question : Type 0 where
@@ -39,10 +43,11 @@ pub data Question : Type 0 where
   oldest : ℕ → Question
   newest : ℕ → Question
 
--- a call: a command; a run, with the day record or without, of bytes with a budget; a question; a lay-out of Q places
+-- a call: a command; a run, with the day record or without, of bytes with a budget; a replay of the bytes of a recording, whose first block must have that number; a question; a lay-out of Q places
 pub data Call : Type 0 where
   carry : Command → Call
   run : Bool → List ℕ → ℕ → Call
+  replay : List ℕ → ℕ → Call
   ask : Question → Call
   layOut : ℕ → Call
 
@@ -60,6 +65,7 @@ pub data Reply : Type 0 where
   slid : Slid → Reply
   served : Served → Reply
   ran : Ran → Reply
+  replayed : Replayed → Reply
   listed : Listed → List ℕ → Reply
   counted : Counted → Reply
   told : Told → Reply
@@ -80,6 +86,9 @@ commandSays serving = says (λ x. served (serveTells.Refused x)) (λ L s. served
 
 abbrev pub runSays : List ℕ → ℕ → Says
 runSays bytes budget = says (λ x. ran (runTells.Refused x)) (λ L s. ran (runTells.Reported (reportOf L s budget bytes)))
+
+abbrev pub replaySays : List ℕ → ℕ → Says
+replaySays bytes first = says (λ x. replayed (replayTells.Refused x)) (λ L s. replayed (replayTells.Reported (replayOf L s first bytes)))
 
 -- a listing that is refused leaves its output
 abbrev pub listingSays : (ℕ → Waiting → List ℕ) → ℕ → List ℕ → Says
@@ -123,13 +132,23 @@ carriedOn n s cs = cond (short n s) s (state (s .limits) (after (s .limits) (s .
 abbrev pub plainReply : ℕ → State → Call → Reply
 plainReply n s (carry c) = saidOf n s (commandSays c)
 plainReply n s (run day bytes budget) = saidOf n s (runSays bytes budget)
+plainReply n s (replay bytes first) = saidOf n s (replaySays bytes first)
 plainReply n s (ask x) = saidOf n s (questionSays x)
 plainReply n s (layOut q) = laid (layOutNumber q n)
 
+-- the commands that a call carries out where the table is not refused
+abbrev pub carriedBy : Call → List Command
+carriedBy (carry c) = c ∷ []
+carriedBy (run day bytes budget) = carried budget bytes
+carriedBy (replay bytes first) = recording.replayed first bytes
+carriedBy (ask x) = []
+carriedBy (layOut q) = []
+
 -- and who waits after it: a question leaves that, and so does a lay-out that is refused
 abbrev pub plainStep : ℕ → State → Call → State
-plainStep n s (carry c) = carriedOn n s (c ∷ [])
-plainStep n s (run day bytes budget) = carriedOn n s (carried budget bytes)
+plainStep n s (carry c) = carriedOn n s (carriedBy (carry c))
+plainStep n s (run day bytes budget) = carriedOn n s (carriedBy (run day bytes budget))
+plainStep n s (replay bytes first) = carriedOn n s (carriedBy (replay bytes first))
 plainStep n s (ask x) = s
 plainStep n s (layOut q) = cond (eqb (layOutNumber q n) 0) (start q) s
 

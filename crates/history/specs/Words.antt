@@ -9,13 +9,13 @@ use Rattle.rules.specs.History as history
 use Rattle.rules.specs.Picture.{Picture, limitsOf, plain}
 use Rattle.rules.specs.Steps as steps
 use Rattle.rules.specs.Commands.{Command, arriving, sliding, serving}
-use Rattle.rules.specs.Run.{carried, nextAll}
+use Rattle.rules.specs.Run.{nextAll}
 use Rattle.rules.specs.Draw.{draw}
 use Rattle.rules.specs.Verdict.{afterwards, layOutNumber, laidOut}
 use Rattle.limiter.specs.Questions.{listedAnswer, listedOut, countedAnswer, toldAnswer}
 use Rattle.limiter.specs.Calls.{arriveAnswer, slideAnswer, serveAnswer}
-use Rattle.limiter.specs.Runs.{runAnswer, runWords}
-use Rattle.history.specs.Plain.{heaviest, lightest, count, oldest, newest, Call, carry, run, ask, layOut, Lent, Reply, arrived, slid, served, ran, listed, counted, told, laid, State, state, short}
+use Rattle.limiter.specs.Runs.{runAnswer, runWords, replayAnswer, replayWords}
+use Rattle.history.specs.Plain.{heaviest, lightest, count, oldest, newest, Call, carry, run, replay, ask, layOut, Lent, Reply, arrived, slid, served, ran, replayed, listed, counted, told, laid, State, state, short, carriedBy}
 
 -- what a call that is lent the words t answers
 abbrev pub reply : Call → List ℕ → Reply
@@ -23,6 +23,7 @@ reply (carry (arriving r)) t = arrived (arriveAnswer (r .id) t)
 reply (carry (sliding r)) t = slid (slideAnswer t)
 reply (carry serving) t = served (serveAnswer t)
 reply (run day bytes budget) t = ran (runAnswer budget bytes t)
+reply (replay bytes first) t = replayed (replayAnswer first bytes t)
 reply (ask (heaviest k out)) t = listed (listedAnswer k (length out) t) (listedOut history.heaviest k t out)
 reply (ask (lightest k out)) t = listed (listedAnswer k (length out) t) (listedOut history.lightest k t out)
 reply (ask (count id)) t = counted (countedAnswer id t)
@@ -36,6 +37,7 @@ words (carry (arriving r)) t = afterwards (λ P. steps.arrived P (r .id) (r .tic
 words (carry (sliding r)) t = afterwards (λ P. steps.slid P (r .id) (r .ticket)) t
 words (carry serving) t = afterwards steps.served t
 words (run day bytes budget) t = runWords budget bytes t
+words (replay bytes first) t = replayWords first bytes t
 words (ask x) t = t
 words (layOut q) t = laidOut q t
 
@@ -75,8 +77,9 @@ abbrev pub carriedIn : ℕ → Slice → List Command → Slice
 carriedIn n S cs = cond (short n (stateOf S)) S (slice (nextAll (S .picture) cs) (S .beyond))
 
 abbrev pub pictureStep : ℕ → Slice → Call → Slice
-pictureStep n S (carry c) = carriedIn n S (c ∷ [])
-pictureStep n S (run day bytes budget) = carriedIn n S (carried budget bytes)
+pictureStep n S (carry c) = carriedIn n S (carriedBy (carry c))
+pictureStep n S (run day bytes budget) = carriedIn n S (carriedBy (run day bytes budget))
+pictureStep n S (replay bytes first) = carriedIn n S (carriedBy (replay bytes first))
 pictureStep n S (ask x) = S
 pictureStep n S (layOut q) = cond (eqb (layOutNumber q n) 0) (fresh q (drawnOut S)) S
 
@@ -87,11 +90,12 @@ abbrev pub pictureAfter : Slice → List Lent → Slice
 pictureAfter S [] = S
 pictureAfter S (l ∷ ls) = pictureAfter (pictureNext S l) ls
 
--- the words that a call alters at most: 48 for an arrive or a slide, 24 for a serve, 48 for each command of a run, none for a question, those of the table for a lay-out
+-- the words that a call alters at most: 48 for an arrive or a slide, 24 for a serve, 48 for each command of a run or a replay, none for a question, those of the table for a lay-out
 abbrev pub mostAltered : Call → ℕ
 mostAltered (carry (arriving r)) = 48
 mostAltered (carry (sliding r)) = 48
 mostAltered (carry serving) = 24
-mostAltered (run day bytes budget) = 48 * length (carried budget bytes)
+mostAltered (run day bytes budget) = 48 * length (carriedBy (run day bytes budget))
+mostAltered (replay bytes first) = 48 * length (carriedBy (replay bytes first))
 mostAltered (ask x) = 0
 mostAltered (layOut q) = kind.size q
