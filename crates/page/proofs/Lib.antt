@@ -2,5 +2,6 @@
 pub mod Decimal
 pub mod Put
 pub mod Begun
+pub mod Long
 mod Number
 mod Form

@@ -37,7 +37,7 @@ pub const INPUT: usize = 2 + Command::BYTES * BUDGET as usize;
 pub const PAGE: usize = 4096;
 
 // The line of a refusal.
-fn refuse(out: &mut [u8], n: u32) -> usize
+pub fn refuse(out: &mut [u8], n: u32) -> usize
     requires { ⌜ Room (now out) 0 (refused n) ⌝ }
     ensures { λ r. ⌜ Put (now (out .entry)) 0 (refused n) (now (out .exit)) r ⌝ }
 {
@@ -75,7 +75,7 @@ fn client(out: &mut [u8], at: usize, id: u32, count: u32) -> usize
 }
 
 // A line for each id and count pair, from place `at` on.
-fn lines(out: &mut [u8], at: usize, pairs: &[u32]) -> usize
+pub fn lines(out: &mut [u8], at: usize, pairs: &[u32]) -> usize
     requires { ⌜ Room (now out) at (clientLines (now pairs)) ⌝ }
     ensures { λ e. ⌜ Put (now (out .entry)) at (clientLines (now (pairs .entry))) (now (out .exit)) e ⌝ }
 {

@@ -4,7 +4,32 @@ ghost use Prim.Native.Nat.{_≤_};
 ghost use lib.ListN.{length};
 ghost use Rattle.io.specs.Counts.{Counts};
 ghost use Rattle.table.specs.Regions.{altered};
+use libc::STDIN_FILENO;
 use libc::STDOUT_FILENO;
+
+// Reads standard input, as far as it has room. That it failed and did not end is said on standard error: a failing read looks
+// like the end, and is asked for once more.
+pub fn input(buf: &mut [u8]) -> usize
+    ensures { λ r. ⌜ Counts r (now (buf .exit)) ⌝ }
+{
+    let n = io::read_full(STDIN_FILENO, buf);
+    if n < buf.len() {
+        let mut more = [0u8; 1];
+        if libc::read(STDIN_FILENO, &mut more) < 0 {
+            os::fail(b"standard input");
+        }
+    }
+    n
+}
+
+// Writes to standard output: whether all could be written. Where not, standard error says so.
+pub fn output(s: &[u8]) -> bool {
+    let written = io::write_all(STDOUT_FILENO, s);
+    if !written {
+        os::fail(b"standard output");
+    }
+    written
+}
 
 pub fn text(s: &[u8]) {
     io::write_all(STDOUT_FILENO, s);
@@ -83,6 +108,18 @@ pub fn number(s: &[u8]) -> u64 {
         i += 1;
     }
     v
+}
+
+// Whether they are a decimal number: digits alone, and at least one.
+pub fn is_decimal(s: &[u8]) -> bool {
+    let mut i = 0;
+    while i < s.len() {
+        if s[i] < b'0' || b'9' < s[i] {
+            return false;
+        }
+        i += 1;
+    }
+    0 < i
 }
 
 // A number as a word: 0 where it is too large for one.

@@ -1,4 +1,5 @@
-// Carries out the commands of the vectors, and prints each line of them as the calls have it: the reply, and every word of the table.
+// Carries out the commands of the vectors, and prints each line of them as the calls have it: the reply, and every word of the table. Then the same of the replays.
+mod evening;
 mod reply;
 
 use table::LinkedTable;
@@ -48,6 +49,10 @@ fn line(s: &[u8], t: &mut [u32], q: usize) -> usize {
     if s.len() < 2 {
         return q;
     }
+    if s[0] == b'p' {
+        evening::line(s, t);
+        return q;
+    }
     if s[0] == b't' {
         let places = report::next(s, report::find(s, 0, b' ')).number as usize;
         begin(t, places);
@@ -79,4 +84,5 @@ fn file(path: &[u8]) {
 fn main() {
     file(b"session.txt");
     file(b"small.txt");
+    file(b"evening.txt");
 }

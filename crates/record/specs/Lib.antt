@@ -1,0 +1,2 @@
+-- What comes of the commands of one block.
+pub mod Fills
