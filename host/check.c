@@ -96,6 +96,18 @@ int lent_same(const struct lent *l, size_t from)
     return memcmp(l->copy + from, l->words + from, (l->count - from) * sizeof(uint32_t)) == 0;
 }
 
+struct lent_bytes lent_bytes_of(const uint8_t *from, size_t count, enum lent_behind behind, size_t before_end)
+{
+    struct lent_bytes b;
+    b.lent = lent_of((count + before_end + sizeof(uint32_t) - 1) / sizeof(uint32_t), behind);
+    b.at = (uint8_t *)b.lent.words + (b.lent.count * sizeof(uint32_t) - before_end - count);
+    if (from != NULL) {
+        memcpy(b.at, from, count);
+        lent_note(&b.lent);
+    }
+    return b;
+}
+
 int lent_guarded(const struct lent *l)
 {
     for (const uint32_t *w = l->first; w < l->words; w++) {

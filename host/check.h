@@ -44,4 +44,13 @@ int lent_same(const struct lent *l, size_t from);
 /* Whether the guard words are as they were. */
 int lent_guarded(const struct lent *l);
 
+/* Bytes that are lent: the last ones of such words, or so many bytes before their end. */
+struct lent_bytes {
+    struct lent lent;
+    uint8_t *at;
+};
+
+/* A copy of these bytes, noted; where `from` is NULL, as many fresh ones. */
+struct lent_bytes lent_bytes_of(const uint8_t *from, size_t count, enum lent_behind behind, size_t before_end);
+
 #endif

@@ -54,30 +54,19 @@ static int same_day(const struct boomspool_day *d, const struct boomspool_ran *r
 }
 
 /* The session's bytes in a buffer that ends where a page begins that nothing may touch. */
-struct bytes {
-    struct lent lent;
-    uint8_t *at;
-};
-
-static struct bytes bytes_of(size_t count)
+static struct lent_bytes bytes_of(size_t count)
 {
-    struct bytes b;
-    b.lent = lent_of((count + 3) / 4, NO_PAGE);
-    b.at = (uint8_t *)b.lent.words + (b.lent.count * sizeof(uint32_t) - count);
-    for (size_t i = 0; i < count; i += COMMAND) {
-        uint8_t one[COMMAND];
-        const uint32_t *c = SESSION[i / COMMAND % COMMANDS];
-        put(one, c[0], c[1], c[2]);
-        memcpy(b.at + i, one, count - i < COMMAND ? count - i : COMMAND);
+    uint8_t session[BYTES];
+    for (size_t i = 0; i < COMMANDS; i++) {
+        put(session + COMMAND * i, SESSION[i][0], SESSION[i][1], SESSION[i][2]);
     }
-    lent_note(&b.lent);
-    return b;
+    return lent_bytes_of(session, count, NO_PAGE, 0);
 }
 
 /* Runs so many bytes of the session on a fresh table, both ways: the report, the table that the calls leave, the day. */
 static void runs(size_t count, uint64_t budget, uint32_t stop, size_t done)
 {
-    struct bytes b = bytes_of(count);
+    struct lent_bytes b = bytes_of(count);
     struct lent t = lent_of(WORDS, NO_PAGE), u = lent_of(WORDS + 9, GUARDS), by_calls = lent_of(WORDS, GUARDS);
     struct lent d = lent_of(DAY_WORDS, NO_PAGE);
     struct boomspool_day *day = (struct boomspool_day *)(void *)d.words;
@@ -153,7 +142,7 @@ static void commands(void)
 /* A run that is refused leaves table and day record, and reports nothing else. */
 static void refused(size_t count, size_t at, uint32_t value, uint32_t stop)
 {
-    struct bytes b = bytes_of(BYTES);
+    struct lent_bytes b = bytes_of(BYTES);
     struct lent t = lent_of(count, NO_PAGE), d = lent_of(DAY_WORDS, GUARDS);
     struct boomspool_day *day = (struct boomspool_day *)(void *)d.words;
     boomspool_lay_out(t.words, t.count, PLACES);
@@ -193,7 +182,7 @@ static void refusals(void)
 /* Each total stays at its largest value once there. */
 static void day_record(void)
 {
-    struct bytes b = bytes_of(BYTES);
+    struct lent_bytes b = bytes_of(BYTES);
     struct lent t = lent_of(WORDS, NO_PAGE);
     struct boomspool_day day = { UINT64_MAX - 7, UINT64_MAX - 1, UINT64_MAX, UINT64_MAX - 3, 40, UINT64_MAX };
     check_case("the day record", 0);

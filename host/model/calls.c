@@ -2,6 +2,7 @@
 #include "calls.h"
 #include "boomspool.h"
 #include "picture.h"
+#include "recording.h"
 #include "soundness.h"
 #include <inttypes.h>
 #include <stdio.h>
@@ -149,14 +150,14 @@ static void compare_ticket(struct lent *l, const struct model *m, uint32_t refus
 }
 
 static void compare_report(struct boomspool_ran r, struct tally a) {
-    same("run: stop", r.stop, a.stop);
-    same("run: done", r.done, a.done);
-    same("run: joined", r.joined, a.joined);
-    same("run: evicted", r.evicted, a.evicted);
-    same("run: passed", r.passed, a.passed);
-    same("run: served", r.served, a.served);
-    same("run: turned", r.turned, a.turned);
-    same("run: idle", r.idle, a.idle);
+    same("run or replay: stop", r.stop, a.stop);
+    same("run or replay: done", r.done, a.done);
+    same("run or replay: joined", r.joined, a.joined);
+    same("run or replay: evicted", r.evicted, a.evicted);
+    same("run or replay: passed", r.passed, a.passed);
+    same("run or replay: served", r.served, a.served);
+    same("run or replay: turned", r.turned, a.turned);
+    same("run or replay: idle", r.idle, a.idle);
 }
 
 static void compare_day(const struct boomspool_day *ours, const struct day *d) {
@@ -192,6 +193,37 @@ static void compare_run(struct lent *l, struct model *m, uint32_t refused, const
     }
 }
 
+/* The words that runs of the blocks leave, one after the other, which is how a replay has to leave them. */
+static void same_as_runs(const struct lent *l, const uint8_t *recording, uint64_t blocks) {
+    static uint32_t by_runs[GUARD + MOST_WORDS + MOST_SLACK + GUARD];
+    memcpy(by_runs, before, room_words(l) * sizeof by_runs[0]);
+    for (uint64_t b = 0; b < blocks; b++) {
+        const uint8_t *block = recording + BLOCK_BYTES * b;
+        boomspool_run(by_runs + GUARD, l->words, block, COMMAND_BYTES * recording_used(block), UINT64_MAX);
+    }
+    for (size_t i = 0; i < room_words(l); i++) {
+        same("replay: word", l->room[i], by_runs[i]);
+    }
+}
+
+static void compare_replay(struct lent *l, struct model *m, uint32_t refused, const struct ask *ask) {
+    struct replayed a = {0};
+    a.sums.stop = refused;
+    a = refused ? a : recording_replay(m, ask->commands, ask->bytes, ask->first);
+    struct boomspool_replayed r = boomspool_replay(l->room + GUARD, l->words, ask->commands, ask->bytes, ask->first);
+    same("replay: blocks", r.blocks, a.blocks);
+    compare_report((struct boomspool_ran){r.stop, r.done, r.joined, r.evicted, r.passed, r.served, r.turned, r.idle}, a.sums);
+    sums.ends[a.sums.stop]++;
+    sums.blocks += a.blocks;
+    sums.commands_in_replays += a.sums.done;
+    if (a.sums.joined + a.sums.served == 0) {
+        nothing_written(l);
+    } else {
+        few_written(l, MOST_WORDS);
+        same_as_runs(l, ask->commands, a.blocks);
+    }
+}
+
 void compare_call(struct lent *l, struct model *m, uint32_t refused, const struct ask *ask) {
     memcpy(before, l->room, room_words(l) * sizeof before[0]);
     sums.calls[ask->call]++;
@@ -212,8 +244,12 @@ void compare_call(struct lent *l, struct model *m, uint32_t refused, const struc
     case NEWEST:
         compare_ticket(l, m, refused, ask);
         break;
-    default:
+    case RUN:
+    case RUN_DAY:
         compare_run(l, m, refused, ask);
+        return;
+    default:
+        compare_replay(l, m, refused, ask);
         return;
     }
     nothing_written(l);

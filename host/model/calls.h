@@ -10,16 +10,17 @@ enum { GUARD = 8, MOST_SLACK = 4, MOST_OUT_WORDS = 2 * LARGEST_Q + 8 };
 /* A table as it is lent: guard words on both sides of the words, which may be more than the table's. */
 struct lent { size_t words; uint32_t room[GUARD + MOST_WORDS + MOST_SLACK + GUARD]; };
 
-enum call { ARRIVE, SLIDE, SERVE, HEAVIEST, LIGHTEST, COUNT, OLDEST, NEWEST, RUN, RUN_DAY, CALLS };
+enum call { ARRIVE, SLIDE, SERVE, HEAVIEST, LIGHTEST, COUNT, OLDEST, NEWEST, RUN, RUN_DAY, REPLAY, CALLS };
 
 struct ask {
     enum call call;
     struct request request;
     size_t k, out_words;
-    const uint8_t *commands;
+    const uint8_t *commands; /* or a recording */
     size_t bytes;
     uint64_t budget;
     struct day day;
+    uint64_t first;
 };
 
 /* Where a difference is found: printed with it. */
@@ -27,7 +28,7 @@ struct place { const char *test, *mix; uint64_t seed; size_t q, step; };
 extern struct place place;
 
 /* What has been compared. */
-struct sums { uint64_t calls[CALLS], commands_in_runs, numbers[10], stops[10], events[6], most_altered; };
+struct sums { uint64_t calls[CALLS], commands_in_runs, numbers[10], stops[10], events[6], most_altered, blocks, commands_in_replays, ends[25]; };
 extern struct sums sums;
 
 /* Says what differs and where, and ends the program. */

@@ -2,6 +2,7 @@
 #include "boomspool.h"
 #include "calls.h"
 #include "picture.h"
+#include "recording.h"
 #include "soundness.h"
 #include <inttypes.h>
 #include <stdio.h>
@@ -102,6 +103,16 @@ static void damage_words(uint32_t *t, size_t q) {
     }
 }
 
+/* Two blocks of these commands, or some bytes of them. */
+static void choose_recording(struct ask *ask) {
+    static uint8_t blocks[2 * BLOCK_BYTES];
+    recording_block(blocks, ask->commands, 1 + below(&dice, 4), 0);
+    recording_block(blocks + BLOCK_BYTES, ask->commands, 1 + below(&dice, 4), 1);
+    ask->commands = blocks;
+    ask->bytes = below(&dice, 4) ? sizeof blocks : below(&dice, sizeof blocks);
+    ask->first = below(&dice, 8) == 0;
+}
+
 static struct ask choose_ask(enum call call) {
     static uint8_t commands[4 * COMMAND_BYTES];
     struct ask ask = {0};
@@ -117,6 +128,9 @@ static struct ask choose_ask(enum call call) {
     ask.bytes = below(&dice, sizeof commands + 1);
     ask.budget = below(&dice, 6);
     ask.day = (struct day){roll(&dice), 1, 2, 3, UINT64_MAX, UINT64_MAX - 1};
+    if (call == REPLAY) {
+        choose_recording(&ask);
+    }
     return ask;
 }
 
@@ -132,8 +146,8 @@ static void compare_verdict(void) {
     }
     struct ask question = choose_ask(HEAVIEST + (enum call)below(&dice, 5));
     compare_call(&lent, &model, refused, &question);
-    const enum call steps[] = {ARRIVE, SLIDE, SERVE, RUN, RUN_DAY};
-    struct ask step = choose_ask(steps[below(&dice, 5)]);
+    const enum call steps[] = {ARRIVE, SLIDE, SERVE, RUN, RUN_DAY, REPLAY};
+    struct ask step = choose_ask(steps[below(&dice, 6)]);
     compare_call(&lent, &model, refused, &step);
     if (refused == 0) {
         compare_table(&lent, &model);
@@ -223,10 +237,14 @@ static void table_at_edge(size_t q) {
     struct boomspool_counted counted = boomspool_count(edge, lent_words, id);
     struct boomspool_arrived arrived = boomspool_arrive(edge, lent_words, id, 1);
     struct boomspool_served served = boomspool_serve(edge, lent_words);
+    struct boomspool_replayed replayed = boomspool_replay(edge, lent_words, NULL, 0, 0);
     boomspool_arrive(t, need, id, 1);
     boomspool_serve(t, need);
     if (counted.number != refused || arrived.number != refused || served.number != refused) {
         differ("at the edge: number", counted.number, refused);
+    }
+    if (replayed.stop != refused) {
+        differ("at the edge: stop", replayed.stop, refused);
     }
     if (memcmp(edge, t, need * sizeof t[0]) != 0) {
         differ("at the edge: a word", 0, 1);
@@ -241,9 +259,9 @@ static void report(void) {
     for (size_t i = 0; i < CLAUSES && broken[i].clause; i++) {
         printf("%s %s %" PRIu64, i ? "," : "", broken[i].clause, broken[i].tables);
     }
-    printf("\n  refused: 2 %" PRIu64 ", 3 %" PRIu64 ", 4 %" PRIu64 ", 5 %" PRIu64 ", 6 %" PRIu64 "; calls", sums.numbers[2] + sums.stops[2],
-           sums.numbers[3] + sums.stops[3], sums.numbers[4], sums.numbers[5], sums.numbers[6]);
-    static const char *const names[CALLS] = {"arrive", "slide", "serve", "heaviest", "lightest", "count", "oldest", "newest", "run", "run with day record"};
+    printf("\n  refused: 2 %" PRIu64 ", 3 %" PRIu64 ", 4 %" PRIu64 ", 5 %" PRIu64 ", 6 %" PRIu64 "; calls", sums.numbers[2] + sums.stops[2] + sums.ends[2],
+           sums.numbers[3] + sums.stops[3] + sums.ends[3], sums.numbers[4], sums.numbers[5], sums.numbers[6]);
+    static const char *const names[CALLS] = {"arrive", "slide", "serve", "heaviest", "lightest", "count", "oldest", "newest", "run", "run with day record", "replay"};
     for (size_t c = 0; c < CALLS; c++) {
         printf(" %s %" PRIu64, names[c], sums.calls[c]);
     }

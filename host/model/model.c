@@ -173,6 +173,11 @@ static void carry_out(struct model *m, unsigned kind, struct request r, struct t
     sums->idle += a.number == 5;
 }
 
+bool model_command(const uint8_t *bytes) {
+    unsigned kind = bytes[0];
+    return kind == 1 || kind == 2 || (kind == 3 && number_at(bytes + 1) == 0 && number_at(bytes + 5) == 0);
+}
+
 struct tally model_run(struct model *m, const uint8_t *commands, size_t bytes, uint64_t budget) {
     struct tally sums = {0};
     for (;;) {
@@ -188,13 +193,11 @@ struct tally model_run(struct model *m, const uint8_t *commands, size_t bytes, u
             sums.stop = 7;
             return sums;
         }
-        unsigned kind = commands[0];
-        struct request r = {number_at(commands + 1), number_at(commands + 5)};
-        if (kind < 1 || kind > 3 || (kind == 3 && (r.id != 0 || r.ticket != 0))) {
+        if (!model_command(commands)) {
             sums.stop = 8;
             return sums;
         }
-        carry_out(m, kind, r, &sums);
+        carry_out(m, commands[0], (struct request){number_at(commands + 1), number_at(commands + 5)}, &sums);
         commands += COMMAND_BYTES;
         bytes -= COMMAND_BYTES;
     }

@@ -33,6 +33,8 @@ void model_empty(struct model *m, size_t places);
 struct answer model_arrive(struct model *m, struct request r);
 struct answer model_slide(struct model *m, struct request r);
 struct answer model_serve(struct model *m);
+/* Whether nine bytes are a command; a run stops with 8 where they are not. */
+bool model_command(const uint8_t *bytes);
 struct tally model_run(struct model *m, const uint8_t *commands, size_t bytes, uint64_t budget);
 /* Adds a run's totals to the day record; each stays at its largest value once there. */
 void model_bring_up(struct day *day, const struct tally *sums);
