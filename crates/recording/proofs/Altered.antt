@@ -5,7 +5,7 @@ use Prim.Native.Nat.{ℕ, suc, _+_, _*_, _-_, _/_, _%_, _≤_, _<_}
 use native.Mathlib.Nat.{zero-add, add-zero}
 use native.Mathlib.Omega.{arith}
 use lib.ListN.{length, getD, set, take, drop, length-set, length-take, length-drop, List·getD-append}
-use lib.Seq.{take-at, getD-append-add, set-append-left}
+use lib.Seq.{getD-append-add, set-append-left}
 use Rattle.table.proofs.Draw.{append-set}
 use Rattle.rules.specs.Numbers as number
 use Rattle.rules.specs.Commands.{Command}
@@ -50,17 +50,10 @@ module _ (cs : List Command) (fit : AllFit cs) (most : length cs ≤ kind.mostCo
   split : (k : ℕ) → j + k ≡ blocksFor (length cs) → recording cs ≡ front ++ blocksFrom k j left
   split k e = ap (λ (i : ℕ). blocksFrom i 0 cs) (sym e) ∙ blocks-split j k 0 cs ∙ ap (λ (i : ℕ). front ++ blocksFrom k i left) (zero-add j)
 
-  front-taken : j ≤ blocksFor (length cs) → take start (recording cs) ≡ front
-  front-taken h = ap (take start) (split (blocksFor (length cs) - j) (omega arith)) ∙ take-at front _ start front-long
-
   front-replayed : j ≤ blocksFor (length cs) → Replays 0 (pieces front) 0 j (take (kind.commands * j) cs)
   front-replayed h =
       let few = length-take (kind.commands * j) cs in
       rw blocks-alike (blocks-replayed j 0 (take (kind.commands * j) cs) (all-take Fits (kind.commands * j) cs fit) (omega arith) (omega arith) (omega arith))
-
-  -- the first blocks of a recording replay the first commands
-  pub first-blocks : j ≤ blocksFor (length cs) → Replays 0 (pieces (take (kind.blockBytes * j) (recording cs))) 0 j (take (kind.commands * j) cs)
-  first-blocks h = rw (front-taken h) (front-replayed h)
 
   -- where a block behind them fails, the replay stops there, whatever is behind it
   front-stops : j ≤ blocksFor (length cs) → (b u : List ℕ) → length b ≡ kind.blockBytes → (failing j b ≡ 0 → ⊥)
@@ -73,11 +66,6 @@ module _ (cs : List Command) (fit : AllFit cs) (most : length cs ≤ kind.mostCo
       let last = piece-fails j b (pieces u) fails in
       let all = all-pass 0 (pieces front) (b ∷ pieces u) (first .stop) in
       rw cut (rw (count, last .stop, first .blocks, last .blocks, add-zero, first .commands, last .commands, append-nil) at all)
-
-  -- whatever stands in the place of block j and fails: none of its commands is carried out
-  pub bad-block : j < blocksFor (length cs) → (b : List ℕ) → length b ≡ kind.blockBytes → (failing j b ≡ 0 → ⊥)
-      → Replays 0 (pieces (take (kind.blockBytes * j) (recording cs) ++ (b ++ drop (kind.blockBytes * j + kind.blockBytes) (recording cs)))) (failing j b) j (take (kind.commands * j) cs)
-  bad-block h b long fails = rw (front-taken (omega arith)) (front-stops (omega arith) b (drop (start + kind.blockBytes) (recording cs)) long fails)
 
   -- block j as it was recorded, and those behind it
   abbrev here : List ℕ

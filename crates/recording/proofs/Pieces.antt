@@ -93,7 +93,7 @@ module _ (n : ℕ) (b : List ℕ) (bs : List (List ℕ)) where
       record { stop = simp t; blocks = simp t; commands = simp t }
 
   -- all pass: so does the first
-  pub first-passes : stopIn n (b ∷ bs) ≡ 0 → failing n b ≡ 0
+  first-passes : stopIn n (b ∷ bs) ≡ 0 → failing n b ≡ 0
   first-passes e = go (eq-zero-or-pos (failing n b))
     where
       go : (failing n b ≡ 0) ⊎ (0 < failing n b) → failing n b ≡ 0
@@ -118,12 +118,6 @@ all-pass n (b ∷ bs) ds e =
       blocks = rw (l .blocks, k .blocks, m .blocks, a) (omega arith);
       commands = rw (l .commands, k .commands, m .commands, a) (sym (append-assoc (commandsIn b) (replayedIn (suc n) bs) _));
     }
-
-pub all-passed : (n : ℕ) (bs : List (List ℕ)) → stopIn n bs ≡ 0 → passedIn n bs ≡ length bs
-all-passed n [] e = no-pieces n .blocks
-all-passed n (b ∷ bs) e =
-    let k = piece-passes n b bs (first-passes n b bs e) in
-    k .blocks ∙ ap suc (all-passed (suc n) bs (sym (k .stop) ∙ e))
 
 -- over pieces of which one fails, whatever is behind them
 pub stops-there : (n : ℕ) (bs ds : List (List ℕ)) → (stopIn n bs ≡ 0 → ⊥) → Replays n (bs ++ ds) (stopIn n bs) (passedIn n bs) (replayedIn n bs)
@@ -197,7 +191,7 @@ module _ (n : ℕ) (b : List ℕ) where
       )
 
 -- a run carries out no more commands than its budget
-pub carried-few : (b : ℕ) (s : List ℕ) → length (carried b s) ≤ b
+carried-few : (b : ℕ) (s : List ℕ) → length (carried b s) ≤ b
 unfolding carried
 carried-few zero s = omega arith
 carried-few (suc b) s =

@@ -1,4 +1,4 @@
--- A block that is torn while a longer one is written over it: it is the old one, or the new one, or its check is wrong.
+-- A block that is torn while a longer one is written over it: it is the old one, or the new one, or its check is wrong. And a block that was left as zeros.
 use mathlib.Core.List.{List, [], _∷_, _++_, append-assoc}
 use mathlib.Core.Logic.{by-cases, _⊎_, inl, inr, ⊎-map}
 use mathlib.Core.Path.{_≡_, refl, sym, ap, _∙_}
@@ -9,10 +9,11 @@ use native.Mathlib.Omega.{arith}
 use lib.ListN.{length, take, drop, replicate, length-append, length-take, length-drop, length-replicate, take-append-drop}
 use lib.Arith.{digits-div, digits-mod}
 use lib.Seq.{take-append-le, drop-append-le, take-append-add, drop-append-add, take-at, drop-at}
+use borrow.Author.Tests.{ne-eqb}
 use Rattle.rules.specs.Numbers as number
 use Rattle.rules.specs.Run.{commandBytes, fourBytes}
 use Rattle.recording.specs.Kind as kind
-use Rattle.recording.specs.Block.{twoOf, fourOf, weighed, checked, sealed, failing}
+use Rattle.recording.specs.Block.{twoOf, fourOf, weighed, checked, sealed, zeros, failing}
 use Rattle.recording.proofs.Noticed.{wrong-noticed}
 
 -- as many numbers, each at most the other's
@@ -157,3 +158,12 @@ module _ (c x : List ℕ) (u n : ℕ) (before : length c ≡ commandBytes * u) (
       ⊎ ((take p (sealed (c ++ x) (suc u) n) ++ drop p (sealed c u n) ≡ sealed (c ++ x) (suc u) n)
       ⊎ (failing n (take p (sealed (c ++ x) (suc u) n) ++ drop p (sealed c u n)) ≡ number.wrongCheck))
   torn-noticed p = checked-torn n front-under (simp (length-append, length-replicate) (omega arith)) p
+
+-- a block left as zeros: as block 0 it has no commands, as any other the wrong number
+pub first-zeros-noticed : failing 0 (replicate kind.blockBytes 0) ≡ number.wrongUse
+unfolding failing weighed zeros
+first-zeros-noticed = refl
+
+pub zeros-noticed : (n : ℕ) → (0 ≡ n → ⊥) → failing n (replicate kind.blockBytes 0) ≡ number.wrongNumber
+unfolding failing weighed zeros
+zeros-noticed n other = simp (ne-eqb 0 n other)
