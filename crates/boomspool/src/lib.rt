@@ -329,7 +329,7 @@ pub extern "C" fn boomspool_arrive(t: &mut [u32], id: u32, ticket: Ticket) -> Bo
     ensures reply { λ r. ⌜ r ≡ arrivedStruct (arriveAnswer id (now (t .entry))) ⌝ }
     ensures numbers { λ r. ⌜ arrivedFields r ≡ numbersOf (arriveNumber (now (t .entry))) (choiceValues (arriveChoice id (now (t .entry)))) ⌝ }
     ensures words { λ _. ⌜ now (t .exit) ≡ afterwards (λ P. steps.arrived P id ticket) (now (t .entry)) ⌝ }
-    ensures few { λ _. ⌜ altered (now (t .entry)) (now (t .exit)) ≤ 48 ⌝ }
+    ensures few { λ _. ⌜ altered (now (t .entry)) (now (t .exit)) ≤ 47 ⌝ }
 {
     arrived_reply(limiter::arrive(t, id, ticket))
 }

@@ -1,4 +1,4 @@
--- Demand 3: an arrive and a slide alter at most 48 words each, a serve 24, a run or a replay 48 for each command that it carries out, a question none, a lay-out the words of its table at most: whatever slice they are made on and however many of its words they are lent.
+-- Demand 3: an arrive alters at most 47 words, a slide 48, a serve 24, a run or a replay 48 for each command that it carries out, a question none, a lay-out the words of its table at most: whatever slice they are made on and however many of its words they are lent.
 use mathlib.Core.Bool.{Bool, true, false, cond}
 use mathlib.Core.List.{List, [], _∷_, _++_}
 use mathlib.Core.Path.{_≡_, refl, sym, ap, _∙_, subst}

@@ -47,7 +47,7 @@ single-slices n N q false e (c ∷ cs) S v long is =
     let p : J .picture .places ≡ q = ap (λ (L : Limits). L .places) (next-step (S .picture) v c .limits) ∙ is in
     ap (λ (J : Slice). pictureAfter J (singles n cs)) goes ∙ single-slices n N q false e cs J r l p
 
-after-append : (xs ys : List Lent) (S : Slice) → pictureAfter S (xs ++ ys) ≡ pictureAfter (pictureAfter S xs) ys
+pub after-append : (xs ys : List Lent) (S : Slice) → pictureAfter S (xs ++ ys) ≡ pictureAfter (pictureAfter S xs) ys
 after-append [] ys S = refl
 after-append (x ∷ xs) ys S = after-append xs ys (pictureNext S x)
 

@@ -90,9 +90,9 @@ abbrev pub pictureAfter : Slice → List Lent → Slice
 pictureAfter S [] = S
 pictureAfter S (l ∷ ls) = pictureAfter (pictureNext S l) ls
 
--- the words that a call alters at most: 48 for an arrive or a slide, 24 for a serve, 48 for each command of a run or a replay, none for a question, those of the table for a lay-out
+-- the words that a call alters at most: 47 for an arrive, 48 for a slide, 24 for a serve, 48 for each command of a run or a replay, none for a question, those of the table for a lay-out
 abbrev pub mostAltered : Call → ℕ
-mostAltered (carry (arriving r)) = 48
+mostAltered (carry (arriving r)) = 47
 mostAltered (carry (sliding r)) = 48
 mostAltered (carry serving) = 24
 mostAltered (run day bytes budget) = 48 * length (carriedBy (run day bytes budget))

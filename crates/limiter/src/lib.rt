@@ -117,7 +117,7 @@ pub fn arrive(t: &mut [u32], id: u32, ticket: Ticket) -> Arrived
     ensures reply { λ r. ⌜ r ≡ arriveAnswer id (now (t .entry)) ⌝ }
     ensures numbers { λ r. ⌜ arrivedNumbers r ≡ numbersOf (arriveNumber (now (t .entry))) (choiceValues (arriveChoice id (now (t .entry)))) ⌝ }
     ensures words { λ _. ⌜ now (t .exit) ≡ afterwards (λ P. steps.arrived P id ticket) (now (t .entry)) ⌝ }
-    ensures few { λ _. ⌜ altered (now (t .entry)) (now (t .exit)) ≤ 48 ⌝ }
+    ensures few { λ _. ⌜ altered (now (t .entry)) (now (t .exit)) ≤ 47 ⌝ }
 {
     let s = spread::table();
     match verdict::of(t, &s) {

@@ -18,7 +18,7 @@ session : List ℕ
 session =
     4 ∷ 0 ∷ command 1 1 10 ++ command 1 1 11 ++ command 1 2 12 ++ command 1 1 13 ++ command 1 3 14 ++ command 1 1 15 ++ command 1 2 16 ++ command 2 3 17 ++ command 3 0 0
 
-whole : printed session ≡ bytes "stop 0 done 9 joined 7 evicted 2 passed 1 served 1 turned 1 idle 0\n3 2\n2 1\n"
+whole : printed session ≡ bytes "stop 0 done 9 joined 6 evicted 1 passed 1 served 1 turned 2 idle 0\n3 2\n2 1\n"
 unfolding turnedAway stop carried decimal filled clientLines printed command session
 whole = refl
 

@@ -13,7 +13,7 @@ use borrow.Author.Tests.{eq-eqb, ne-eqb}
 use Rattle.table.specs.Kind as kind
 use Rattle.rules.specs.Rows.{lastOr, In, All, Distinct}
 use Rattle.rules.specs.History as history
-use Rattle.rules.specs.History.{Request, heaviestClient, changed, evict, front, left, dropFront}
+use Rattle.rules.specs.History.{Request, heaviestClient, largestCount, changed, evict, front, left, dropFront}
 use Rattle.rules.specs.Picture.{Item, Client, Picture, item, clientRow, clientId, clientRows, ownRows, countOf, idOf, requestOf, plain, limitsOf}
 use Rattle.rules.specs.Steps.{leave, newestItem, frontItem}
 use Rattle.rules.specs.Sound.{Right}
@@ -111,6 +111,10 @@ module _ (P : Picture) (v : Right P) (h : 1 ≤ length (P .window)) where
       let row = l .is clientRow kind.none in
       let name = look-same clientRow clientId (l .put) (clients-distinct P v) in
       (put-in heaviest (put-map clientRow (l .put)) (inl row), ap (idOf (P .clients)) row ∙ name ∙ sym (l .is clientId 0))
+
+  pub heaviest-count : countOf (P .window) heaviest ≡ largestCount (plain P)
+  heaviest-count =
+      sym (count-plain (P .clients) (v .ids) heaviest (heaviest-is .0) (P .window) (v .owners)) ∙ ap (λ (i : ℕ). history.count i (plain P .window)) (heaviest-is .1)
 
   -- its newest item
   abbrev newest : Item

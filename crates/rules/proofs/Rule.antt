@@ -1,9 +1,9 @@
 -- The arrival rule's laws: nothing above opens the rule. And which of the three an arrival comes to.
 use mathlib.Core.Bool.{Bool, true, false}
 use mathlib.Core.Path.{_≡_, refl, sym, ap, _∙_}
-use Prim.Native.Nat.{ℕ, _≤_, _<_}
+use Prim.Native.Nat.{ℕ, _+_, _≤_, _<_}
 use native.Mathlib.Omega.{arith}
-use borrow.Author.Tests.{eqb-true, eqb-false}
+use borrow.Author.Tests.{leb-true, leb-false}
 use Rattle.rules.specs.History.{Request, Waiting, Limits, Choice, joined, evicted, turned, count, newest, heaviestClient, largestCount, full, turnedAway, choice}
 
 -- while places are free nobody is turned away
@@ -11,15 +11,15 @@ pub open-stays : (n m : ℕ) → turnedAway false n m ≡ false
 unfolding turnedAway
 open-stays n m = refl
 
--- at a full window a client that is turned away has the largest count at least
-pub turned-heavy : (n m : ℕ) → turnedAway true n m ≡ true → m ≤ n
+-- at a full window a client that is turned away would have the largest count at least
+pub turned-heavy : (n m : ℕ) → turnedAway true n m ≡ true → m ≤ n + 1
 unfolding turnedAway
-turned-heavy n m e = omega (arith, eqb-true n m e)
+turned-heavy n m e = leb-true m (n + 1) e
 
--- and one that is not has another: where none has more than m, fewer
-pub stays-light : (n m : ℕ) → n ≤ m → turnedAway true n m ≡ false → n < m
+-- and one that is not would have fewer still
+pub stays-light : (n m : ℕ) → turnedAway true n m ≡ false → n + 1 < m
 unfolding turnedAway
-stays-light n m l e = let other : n ≡ m → ⊥ = eqb-false n m e in omega (arith, other)
+stays-light n m e = leb-false m (n + 1) e
 
 abbrev code : Choice → ℕ
 code joined = 0

@@ -1,11 +1,12 @@
--- Sharing: no arrival turns away or evicts a client whose waiting requests times the clients waiting come to less than the window.
+-- Sharing: an arrival turns its client away only if (waiting + 1) × clients is at least the window, and evicts a client only if waiting × clients is.
 use mathlib.Core.Bool.{Bool, true, false, cond, _&&_}
 use mathlib.Core.List.{List, [], _∷_, map}
-use mathlib.Core.Logic.{inl, inr, ⊎-elim}
-use mathlib.Core.Path.{_≡_, refl, sym, ap, _∙_}
-use Prim.Native.Nat.{ℕ, zero, suc, _+_, _*_, _≤_}
+use mathlib.Core.Logic.{⊎-elim}
+use mathlib.Core.Path.{_≡_, refl, sym, ap, _∙_, subst}
+use Prim.Native.Nat.{ℕ, suc, _+_, _*_, _≤_}
+use native.Mathlib.Decide.{ℕ-discrete}
 use native.Mathlib.Omega.{arith}
-use native.Mathlib.Nat.{mul-suc, zero-mul, not-suc-le-zero, mul-le-mul-right}
+use native.Mathlib.Nat.{mul-suc, not-suc-le-zero, mul-le-mul-right}
 use lib.Dec.{eqb}
 use lib.ListN.{length}
 use borrow.Author.Tests.{eqb-true, eqb-false, leb-true}
@@ -16,7 +17,7 @@ use Rattle.rules.specs.Sound.{Right}
 use Rattle.rules.proofs.Look.{id-in}
 use Rattle.rules.proofs.Right.{clients-distinct}
 use Rattle.rules.proofs.Plain.{clients-plain}
-use Rattle.rules.proofs.Rule.{turned-heavy, turned-only, evicted-only}
+use Rattle.rules.proofs.Rule.{turned-heavy, stays-light, turned-only, evicted-only}
 
 -- the requests of the clients in a list, all together
 abbrev total : List Request → List ℕ → ℕ
@@ -37,9 +38,9 @@ length-total : (w : List Request) (o : List ℕ) → All (λ r. In (r .id) o) w 
 length-total [] o a = omega arith
 length-total (r ∷ w) o a = omega (arith, one-more r w o .1 (a .0), length-total w o (a .1))
 
-total-most : (w : List Request) (m : ℕ) (o : List ℕ) → ((i : ℕ) → In i o → count i w ≤ m) → total w o ≤ m * length o
-total-most w m [] h = omega arith
-total-most w m (x ∷ o) h = rw (mul-suc m (length o)) (omega (arith, h x (inl refl), total-most w m o (λ i j. h i (inr j))))
+total-most : (w : List Request) (m : ℕ) → ((i : ℕ) → count i w ≤ m) → (o : List ℕ) → total w o ≤ m * length o
+total-most w m h [] = omega arith
+total-most w m h (x ∷ o) = rw (mul-suc m (length o)) (omega (arith, h x, total-most w m h o))
 
 -- where numbers never fall, the last is largest
 least-last : (f : ℕ → ℕ) (p : ℕ) (xs : List ℕ) → Rising (f p) (map f xs) → f p ≤ f (lastOr p xs)
@@ -50,7 +51,7 @@ last-most : (f : ℕ → ℕ) (m p : ℕ) (xs : List ℕ) → Rising m (map f xs
 last-most f m p [] u r i = absurd i
 last-most f m p (x ∷ xs) u r i = ⊎-elim (λ e. rw e (least-last f x xs (u .1))) (λ j. last-most f (f x) x xs (u .1) r j) i
 
-newest-id : (h : ℕ) (w : List Request) → 1 ≤ count h w → newest h w .id ≡ h
+pub newest-id : (h : ℕ) (w : List Request) → 1 ≤ count h w → newest h w .id ≡ h
 newest-id h [] c = absurd (not-suc-le-zero c)
 newest-id h (r ∷ w) c = go (eqb (r .id) h) refl (eqb (count h w) 0) refl c (newest-id h w)
   where
@@ -60,43 +61,54 @@ newest-id h (r ∷ w) c = go (eqb (r .id) h) refl (eqb (count h w) 0) refl c (ne
     go true e false g n ih = let z = eqb-false (count h w) 0 g in ih (omega (arith, z))
     go false e b g n ih = ih n
 
-some : (m n : ℕ) → 1 ≤ m * n → 1 ≤ m
-some zero n h = absurd (not-suc-le-zero (rw (zero-mul n) at h))
-some (suc m) n h = omega arith
+-- where an arrival evicts, the request that leaves is the heaviest client's, who has two more than the arriving one at least
+pub two-fewer : (L : Limits) (s : Waiting) (j : ℕ) (r : Request) → choice L s j ≡ evicted r → count j (s .window) + 2 ≤ largestCount s
+two-fewer L s j r h = omega (arith, stays-light (count j (s .window)) (largestCount s) (evicted-only L s j r h .1))
+
+pub heaviest-evicted : (L : Limits) (s : Waiting) (j : ℕ) (r : Request) → choice L s j ≡ evicted r → r .id ≡ heaviestClient s
+heaviest-evicted L s j r h =
+    sym (ap (λ (x : Request). x .id) (evicted-only L s j r h .2)) ∙ newest-id (heaviestClient s) (s .window) (omega (arith, two-fewer L s j r h))
+
+-- a client that has a request is one of those who are known
+counted-in : (i : ℕ) (w : List Request) (o : List ℕ) → All (λ r. In (r .id) o) w → 1 ≤ count i w → In i o
+counted-in i [] o a c = absurd (not-suc-le-zero c)
+counted-in i (r ∷ w) o a c = go (eqb (r .id) i) refl c (counted-in i w o (a .1))
+  where
+    go : (b : Bool) → eqb (r .id) i ≡ b → 1 ≤ cond b (suc (count i w)) (count i w) → (1 ≤ count i w → In i o) → In i o
+    go true e c ih = subst (λ (j : ℕ). In j o) (eqb-true (r .id) i e) (a .0)
+    go false e c ih = ih c
 
 -- each request is one of the clients', and their counts never fall
 pub record Fair (s : Waiting) : Type 0 where
   pub known : All (λ r. In (r .id) (s .order)) (s .window)
   pub rises : Rising 1 (map (λ x. count x (s .window)) (s .order))
 
-module _ (L : Limits) (s : Waiting) (fair : Fair s) where
-  pub most : (i : ℕ) → In i (s .order) → count i (s .window) ≤ largestCount s
-  most = last-most (λ x. count x (s .window)) 1 0 (s .order) (fair .rises)
+-- nobody has more requests than the largest count
+pub most : (s : Waiting) → Fair s → (i : ℕ) → count i (s .window) ≤ largestCount s
+most s fair i =
+    elim (ℕ-discrete (count i (s .window)) 0) [
+      | yes z ↦ omega (arith, z)
+      | no n ↦ last-most (λ x. count x (s .window)) 1 0 (s .order) (fair .rises) i (counted-in i (s .window) (s .order) (fair .known) (omega (arith, n)))
+    ]
 
+module _ (L : Limits) (s : Waiting) (fair : Fair s) where
   -- where the window is full, the clients have as many requests as it has places, the heaviest of them the most
   filled : full L s ≡ true → L .places ≤ largestCount s * length (s .order)
   filled f =
       let a : L .places ≤ length (s .window) = leb-true (L .places) (length (s .window)) f in
-      omega (arith, a, length-total (s .window) (s .order) (fair .known), total-most (s .window) (largestCount s) (s .order) most)
+      omega (arith, a, length-total (s .window) (s .order) (fair .known), total-most (s .window) (largestCount s) (most s fair) (s .order))
 
-  -- a client is turned away only if its requests times the clients come to the window
-  pub turned-share : (i : ℕ) → choice L s i ≡ turned → L .places ≤ count i (s .window) * length (s .order)
+  -- a client is turned away only if its requests and one more, times the clients, come to the window
+  pub turned-share : (i : ℕ) → choice L s i ≡ turned → L .places ≤ (count i (s .window) + 1) * length (s .order)
   turned-share i h =
       let (f, a) = turned-only L s i h in
       omega (arith, filled f, mul-le-mul-right (length (s .order)) (turned-heavy (count i (s .window)) (largestCount s) a))
 
-  -- and so for the client of a request that is evicted, whoever arrives
+  -- the client of a request that is evicted, whoever arrives, only if its requests times the clients do
   pub evicted-share : (j : ℕ) (r : Request) → choice L s j ≡ evicted r → L .places ≤ count (r .id) (s .window) * length (s .order)
   evicted-share j r h =
-      let (f, _, e) = evicted-only L s j r h in
-      go (L .places) refl f e
-    where
-      go : (q : ℕ) → L .places ≡ q → full L s ≡ true → newest (heaviestClient s) (s .window) ≡ r → L .places ≤ count (r .id) (s .window) * length (s .order)
-      go zero z f e = omega (arith, z)
-      go (suc q) z f e =
-          let one = some (largestCount s) (length (s .order)) (omega (arith, filled f, z)) in
-          let is : r .id ≡ heaviestClient s = sym (ap (λ (x : Request). x .id) e) ∙ newest-id (heaviestClient s) (s .window) one in
-          rw is (filled f)
+      let (f, _, _) = evicted-only L s j r h in
+      rw (heaviest-evicted L s j r h) (filled f)
 
 -- a right picture forgets to such a history
 owners-known : (cs : List Client) (w : List Item) → All (λ i. In (i .client) (map clientRow cs)) w → All (λ r. In (r .id) (map clientId cs)) (map (requestOf cs) w)

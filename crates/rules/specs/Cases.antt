@@ -43,12 +43,9 @@ abbrev pub right : Case → Bool
 right (layOut q n number) = eqb (layOutNumber q n) number
 right (session q es words) = goes (empty q) es words
 
--- the words that are left, worked out by a program that shares nothing with this one: after the session, and from Q = 1
+-- the words that are left, worked out by a program that shares nothing with this one: after the session, and where client 7 holds the one place
 abbrev after9 : List ℕ
-after9 = 1212940289 ∷ 4 ∷ 3 ∷ 2 ∷ 3 ∷ 0 ∷ 1 ∷ 2 ∷ 2 ∷ 0 ∷ 0 ∷ 0 ∷ 0 ∷ 0 ∷ 0 ∷ 0 ∷ 2 ∷ 17 ∷ 1 ∷ 4294967295 ∷ 3 ∷ 4294967295 ∷ 1 ∷ 16 ∷ 3 ∷ 0 ∷ 4294967295 ∷ 4294967295 ∷ 0 ∷ 0 ∷ 0 ∷ 4294967295 ∷ 0 ∷ 0 ∷ 2 ∷ 14 ∷ 4294967295 ∷ 1 ∷ 4294967295 ∷ 0 ∷ 0 ∷ 0 ∷ 0 ∷ 3 ∷ 0 ∷ 0 ∷ 0 ∷ 2 ∷ 1 ∷ 4294967295 ∷ 2 ∷ 1 ∷ 1 ∷ 4294967295 ∷ 3 ∷ 2 ∷ 1 ∷ 4294967295 ∷ 3 ∷ 0 ∷ 1 ∷ 0 ∷ 0 ∷ 0 ∷ 4294967295 ∷ 0 ∷ 0 ∷ 0 ∷ 1 ∷ 1 ∷ 2 ∷ 2 ∷ 4294967295 ∷ 4294967295 ∷ 4294967295 ∷ 4294967295 ∷ 2 ∷ 4294967295 ∷ 4294967295 ∷ 4294967295 ∷ []
-
-abbrev holding8 : List ℕ
-holding8 = 1212940289 ∷ 1 ∷ 1 ∷ 1 ∷ 0 ∷ 0 ∷ 0 ∷ 0 ∷ 4294967295 ∷ 4294967295 ∷ 0 ∷ 0 ∷ 0 ∷ 0 ∷ 0 ∷ 0 ∷ 0 ∷ 1 ∷ 4294967295 ∷ 4294967295 ∷ 4294967295 ∷ 4294967295 ∷ 8 ∷ 1 ∷ 4294967295 ∷ 4294967295 ∷ 0 ∷ 0 ∷ 4294967295 ∷ 0 ∷ 0 ∷ 0 ∷ []
+after9 = 1212940289 ∷ 4 ∷ 3 ∷ 2 ∷ 2 ∷ 0 ∷ 1 ∷ 2 ∷ 1 ∷ 0 ∷ 0 ∷ 0 ∷ 0 ∷ 0 ∷ 0 ∷ 0 ∷ 2 ∷ 17 ∷ 3 ∷ 4294967295 ∷ 3 ∷ 4294967295 ∷ 0 ∷ 0 ∷ 0 ∷ 4294967295 ∷ 0 ∷ 0 ∷ 1 ∷ 12 ∷ 4294967295 ∷ 3 ∷ 4294967295 ∷ 4294967295 ∷ 2 ∷ 14 ∷ 2 ∷ 0 ∷ 4294967295 ∷ 0 ∷ 0 ∷ 0 ∷ 0 ∷ 3 ∷ 0 ∷ 0 ∷ 0 ∷ 2 ∷ 1 ∷ 4294967295 ∷ 2 ∷ 2 ∷ 2 ∷ 4294967295 ∷ 3 ∷ 2 ∷ 1 ∷ 4294967295 ∷ 3 ∷ 0 ∷ 1 ∷ 0 ∷ 0 ∷ 0 ∷ 4294967295 ∷ 0 ∷ 0 ∷ 0 ∷ 1 ∷ 1 ∷ 2 ∷ 2 ∷ 4294967295 ∷ 4294967295 ∷ 4294967295 ∷ 4294967295 ∷ 2 ∷ 4294967295 ∷ 4294967295 ∷ 4294967295 ∷ []
 
 abbrev holding7 : List ℕ
 holding7 = 1212940289 ∷ 1 ∷ 1 ∷ 1 ∷ 0 ∷ 0 ∷ 0 ∷ 0 ∷ 4294967295 ∷ 4294967295 ∷ 0 ∷ 0 ∷ 0 ∷ 0 ∷ 0 ∷ 0 ∷ 0 ∷ 0 ∷ 4294967295 ∷ 4294967295 ∷ 4294967295 ∷ 4294967295 ∷ 7 ∷ 1 ∷ 4294967295 ∷ 4294967295 ∷ 0 ∷ 0 ∷ 4294967295 ∷ 0 ∷ 0 ∷ 0 ∷ []
@@ -60,15 +57,15 @@ nineSteps =
     ∷ comes (arriving (request 2 12)) joined ∷ comes (arriving (request 1 13)) joined ∷ lists (1 ∷ 3 ∷ 2 ∷ 1 ∷ [])
     ∷ comes (arriving (request 3 14)) (evicted (request 1 13)) ∷ lists (1 ∷ 2 ∷ 2 ∷ 1 ∷ 3 ∷ 1 ∷ [])
     ∷ comes (arriving (request 1 15)) turned
-    ∷ comes (arriving (request 2 16)) (evicted (request 1 11)) ∷ lists (2 ∷ 2 ∷ 3 ∷ 1 ∷ 1 ∷ 1 ∷ [])
-    ∷ comes (sliding (request 3 17)) (passed (request 1 10)) ∷ lists (2 ∷ 2 ∷ 3 ∷ 2 ∷ [])
-    ∷ comes serving (served (request 2 12)) ∷ tickets 3 14 17 ∷ []
+    ∷ comes (arriving (request 2 16)) turned ∷ lists (1 ∷ 2 ∷ 2 ∷ 1 ∷ 3 ∷ 1 ∷ [])
+    ∷ comes (sliding (request 3 17)) (passed (request 1 10)) ∷ lists (3 ∷ 2 ∷ 2 ∷ 1 ∷ 1 ∷ 1 ∷ [])
+    ∷ comes serving (served (request 1 11)) ∷ tickets 3 14 17 ∷ []
 
 -- the table of cases
 abbrev pub cases : List Case
 cases =
     layOut 0 16016 1 ∷ layOut 1001 16032 1 ∷ layOut 1000 16016 0 ∷ layOut 1000 16015 2
     ∷ session 4 nineSteps after9
-    ∷ session 1 (comes (arriving (request 7 0)) joined ∷ comes (arriving (request 8 1)) (evicted (request 7 0)) ∷ []) holding8
+    ∷ session 1 (comes (arriving (request 7 0)) joined ∷ comes (arriving (request 8 1)) turned ∷ []) holding7
     ∷ session 1 (comes (arriving (request 7 0)) joined ∷ comes (arriving (request 7 4)) turned ∷ []) holding7
     ∷ []

@@ -1,7 +1,7 @@
 -- The plain history: who waits, in what order, and what each call does to that and answers. It knows nothing of rows.
 use mathlib.Core.Bool.{Bool, cond, _&&_}
 use mathlib.Core.List.{List, [], _∷_, _++_, reverse}
-use Prim.Native.Nat.{ℕ, suc, min}
+use Prim.Native.Nat.{ℕ, suc, _+_, min}
 use lib.Dec.{leb, eqb}
 use lib.ListN.{length, take}
 use Rattle.rules.specs.Rows.{without, lastOr}
@@ -84,9 +84,9 @@ limits q = record { places = q }
 abbrev pub full : Limits → Waiting → Bool
 full L s = leb (L .places) (length (s .window))
 
--- the arrival rule: whether a client with n waiting requests is turned away, m being the largest count. Its laws are `proofs/Rule.antt`; nothing above opens it
+-- the arrival rule: a client with n waiting requests is turned away if the window is full and n plus one is at least m, the largest count. Its laws are `proofs/Rule.antt`; nothing above opens it
 unfoldable pub turnedAway : Bool → ℕ → ℕ → Bool
-turnedAway isFull n m = isFull && eqb n m
+turnedAway isFull n m = isFull && leb m (n + 1)
 
 -- what an arrival comes to; the evicting case names the request that left
 pub data Choice : Type 0 where

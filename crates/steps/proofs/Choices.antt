@@ -14,7 +14,7 @@ use Rattle.rules.specs.Steps.{join, leave, frontItem, arrivedAs, arrived, slid,
 use Rattle.rules.specs.Draw.{draw}
 use Rattle.rules.specs.Sound.{picture, Right}
 use Rattle.rules.specs.Ready.{Ready}
-use Rattle.rules.proofs.Rule.{choice-joined}
+use Rattle.rules.proofs.Rule.{stays-light, choice-joined}
 use Rattle.rules.proofs.Settle.{Step}
 use Rattle.rules.proofs.Moves.{leave-frees}
 use Rattle.rules.proofs.Right.{places}
@@ -50,6 +50,10 @@ module _ (P : Picture) where
 -- the code's test of the arrival rule, by the plain history's numbers
 pub away : {n m k l : ℕ} {b z : Bool} → b ≡ turnedAway true n m → n ≡ k → m ≡ l → b ≡ z → turnedAway true k l ≡ z
 away is own heavy e = sym (ap₂ (turnedAway true) own heavy) ∙ sym is ∙ e
+
+-- who is not turned away has two fewer than the heaviest at least
+pub two-wait : (n m : ℕ) {b : Bool} → b ≡ turnedAway true n m → b ≡ false → 2 ≤ m
+two-wait n m is e = omega (arith, stays-light n m (sym is ∙ e))
 
 nobody-first : (f : Item → Request) (w : List Item) → length w ≡ 0 → front (map f w) ≡ nothing
 nobody-first f [] e = refl

@@ -45,9 +45,10 @@ use Rattle.steps.proofs.Clients.{whole-words, names, first-is, first-fr
 use Rattle.steps.proofs.Joining as joining
 use Rattle.steps.proofs.Joining.{free-room, first-low, known-holds, new-holds}
 use Rattle.steps.proofs.Leaving as leaving
-use Rattle.steps.proofs.Leaving.{owner-there, last-holds, more-holds}
+use Rattle.steps.proofs.Leaving.{owner-there, several, last-holds, more-holds}
 use Rattle.steps.proofs.Choices.{arrived-by, slid-joined, slid-passed, served-nobody, served-front, then-ready, then-picture, then-room}
 use Rattle.steps.proofs.Reading.{Waits, heavy-newest, front-waits}
+use Rattle.steps.proofs.Still.{heavy-two}
 
 -- on a ready table
 module _ {q : ℕ} {t : List ℕ} (y : Ready q t) where
@@ -145,6 +146,12 @@ module _ {q : ℕ} {t : List ℕ} (y : Ready q t) where
     abbrev c : ℕ
     c = gone-item .client
 
+    -- one of several
+    more-few : 2 ≤ countOf (P .window) c → altered t (draw (leave P gone-item)) ≤ 23
+    more-few two =
+        drawing 23 (leave P gone-item) (lowered c T) (left r (lowered c T)) (leaving.next y r waits .right) (leaving.next-places y r waits)
+        (more-holds y r waits c refl two) (few-lowered q small c T) (few-left q small r (lowered c T)) (lit≤ tt)
+
     leave-few : altered t (draw (leave P gone-item)) ≤ 24
     leave-few =
         elim (ℕ-discrete (countOf (P .window) c) 1) [
@@ -155,13 +162,15 @@ module _ {q : ℕ} {t : List ℕ} (y : Ready q t) where
               let kept = keeps-id (near .keeps) c 0 (gone c (clientRows P) there (clients-distinct P (ready-right y))) in
               drawing 24 (leave P gone-item) A (left r A) (leaving.next y r waits .right) (leaving.next-places y r waits)
               (last-holds y r waits c refl e (near .lookup) kept) (few-gone q small (near .lookup) c T (near .few)) (few-left q small r A) (lit≤ tt)
-          | no n ↦
-              drawing 24 (leave P gone-item) (lowered c T) (left r (lowered c T)) (leaving.next y r waits .right) (leaving.next-places y r waits)
-              (more-holds y r waits c refl n) (few-lowered q small c T) (few-left q small r (lowered c T)) (lit≤ tt)
+          | no n ↦ omega (arith, more-few (several y r waits c refl n))
         ]
 
   waits-few : {r : ℕ} {i : Item} → Waits P r i → altered t (draw (leave P i)) ≤ 24
   waits-few {r} w = subst (λ (x : Item). altered t (draw (leave P x)) ≤ 24) (w .is) (leave-few r (w .there))
+
+  waits-more : {r : ℕ} {i : Item} → Waits P r i → 2 ≤ countOf (P .window) (i .client) → altered t (draw (leave P i)) ≤ 23
+  waits-more {r} w two =
+      subst (λ (x : Item). altered t (draw (leave P x)) ≤ 23) (w .is) (more-few r (w .there) (subst (λ (x : Item). 2 ≤ countOf (P .window) (x .client)) (sym (w .is)) two))
 
 -- the three calls on a ready table
 module _ {q : ℕ} {t : List ℕ} (y : Ready q t) where
@@ -172,7 +181,7 @@ module _ {q : ℕ} {t : List ℕ} (y : Ready q t) where
   right = ready-right y
 
   -- an item leaves, and then a request joins
-  leave-join-few : {s : Waiting} (id ticket : ℕ) (i : Item) → Step (limitsOf now) s (leave now i) → altered t (draw (leave now i)) ≤ 24 → altered t (draw (join (leave now i) id ticket)) ≤ 48
+  leave-join-few : {s : Waiting} {k : ℕ} (id ticket : ℕ) (i : Item) → Step (limitsOf now) s (leave now i) → altered t (draw (leave now i)) ≤ k → altered t (draw (join (leave now i) id ticket)) ≤ k + 24
   leave-join-few id ticket i j few =
       let a : List ℕ = draw (leave now i) in
       let z = then-ready i y j refl in
@@ -194,16 +203,17 @@ module _ {q : ℕ} {t : List ℕ} (y : Ready q t) where
     abbrev away : Bool
     away = turnedAway true (count id (plain now .window)) (largestCount (plain now))
 
-    pub arrive-few : altered t (draw (arrived now id ticket)) ≤ 48
+    -- where an arrival evicts, no client goes
+    pub arrive-few : altered t (draw (arrived now id ticket)) ≤ 47
     arrive-few = go (full (limitsOf now) (plain now)) refl away refl
       where
-        go : (b : Bool) → full (limitsOf now) (plain now) ≡ b → (a : Bool) → away ≡ a → altered t (draw (arrived now id ticket)) ≤ 48
-        go false e a g = few-by 48 (arrived-by now id ticket (choice-joined (limitsOf now) (plain now) id e)) (lit≤ tt) (join-few y id ticket (open-room now right e))
-        go true e true g = few-by 48 (arrived-by now id ticket (choice-turned (limitsOf now) (plain now) id e g)) (lit≤ tt) unaltered
+        go : (b : Bool) → full (limitsOf now) (plain now) ≡ b → (a : Bool) → away ≡ a → altered t (draw (arrived now id ticket)) ≤ 47
+        go false e a g = few-by 47 (arrived-by now id ticket (choice-joined (limitsOf now) (plain now) id e)) (lit≤ tt) (join-few y id ticket (open-room now right e))
+        go true e true g = few-by 47 (arrived-by now id ticket (choice-turned (limitsOf now) (plain now) id e g)) (lit≤ tt) unaltered
         go true e false g =
             let h = full-waits now right e in
             let w = heavy-newest y h {c = getD t kind.heaviestAt 0} refl {r = clientWord t q (getD t kind.heaviestAt 0) kind.newest} refl in
-            few-by 48 (arrived-by now id ticket (choice-evicted (limitsOf now) (plain now) id e g)) (lit≤ tt) (leave-join-few id ticket _ (evict-step now right h) (waits-few y w))
+            few-by 47 (arrived-by now id ticket (choice-evicted (limitsOf now) (plain now) id e g)) (lit≤ tt) (leave-join-few id ticket _ (evict-step now right h) (waits-more y w (heavy-two y h id g)))
 
     pub slide-few : altered t (draw (slid now id ticket)) ≤ 48
     slide-few = go (full (limitsOf now) (plain now)) refl

@@ -152,19 +152,21 @@ module _ {q : ℕ} {t : List ℕ} (y : Ready q t) (r : ℕ) (waits : In r (itemR
         pub last-left : {u : List ℕ} → Writes q a u (left r) → u ≡ draw (leave P it)
         last-left z = leave-drawn (then (x .writes) z) (last-holds (x .lookup) (x .keeps R (whole-words y) (clientRows P) _ (ready-keeps y) owner-there))
 
+    pub several : (n c ≡ 1 → ⊥) → 2 ≤ n c
+    several m = omega (arith, counts-one P (ready-right y) c owner-there, m)
+
     -- one of several
-    module _ (several : n c ≡ 1 → ⊥) where
-      two : 2 ≤ n c
-      two = omega (arith, counts-one P (ready-right y) c owner-there, several)
+    module _ (two : 2 ≤ n c) where
+      more : countOf (withoutItem (it .row) (P .window)) c ≡ 0 → ⊥
+      more e = omega (arith, fewer, two, e)
 
       pub more-asks : Drawn q t (order.Listed q c (λ m. 2 ≤ m))
       more-asks = asked (λ m. 2 ≤ m) two
 
       pub more-holds : Holds (left r (lowered c R)) (leave P it)
       more-holds =
-          let some : countOf (withoutItem (it .row) (P .window)) c ≡ 0 → ⊥ = λ e. omega (arith, fewer, two, e) in
-          let is = leave-more P it (λ e. some (sym (ap (countOf (withoutItem (it .row) (P .window))) is-client) ∙ e)) in
-          let o = others-moved y c owner-there (orderWords (lowered c R)) (λ s. refl) (withoutItem (it .row) (P .window)) (it .row ∷ P .freeItems) (n c - 1) counts some
+          let is = leave-more P it (λ e. more (sym (ap (countOf (withoutItem (it .row) (P .window))) is-client) ∙ e)) in
+          let o = others-moved y c owner-there (orderWords (lowered c R)) (λ s. refl) (withoutItem (it .row) (P .window)) (it .row ∷ P .freeItems) (n c - 1) counts more
           (lowered-ordered (ready-sized y .small) R (ready-ordered y) c owner-there two) in
           rw is (holds (lowered c R) (ready-queued y) _ (y .places) refl refl (rw is-client o))
 

@@ -10,7 +10,7 @@ use borrow.Author.Tests.{eq-eqb}
 use Rattle.table.specs.Kind as kind
 use Rattle.table.specs.Regions.{Regions, regions, itemWord, clientWord}
 use Rattle.rules.specs.Rows.{lastOr, In}
-use Rattle.rules.specs.History.{full, count, largestCount}
+use Rattle.rules.specs.History.{full, largestCount}
 use Rattle.rules.specs.Picture.{Item, Picture, item, itemRow, itemRows, clientRows, countOf, requestOf, limitsOf, plain}
 use Rattle.rules.specs.Steps.{newestItem, frontItem, leave}
 use Rattle.rules.specs.Draw.{draw}
@@ -19,8 +19,7 @@ use Rattle.rules.specs.Ready.{Ready}
 use Rattle.rules.proofs.Put.{put-there}
 use Rattle.rules.proofs.Columns.{last-is}
 use Rattle.rules.proofs.Right.{items-distinct, counts-one}
-use Rattle.rules.proofs.Plain.{count-plain}
-use Rattle.rules.proofs.Leaving.{heaviest-is}
+use Rattle.rules.proofs.Leaving.{heaviest-is, heaviest-count}
 use Rattle.rules.proofs.Leaving as leaving
 use Rattle.rules.proofs.Ready.{ready-right, ready-ordered, ready-queued}
 use Rattle.window.proofs.Read.{newest-is, front-is}
@@ -77,10 +76,7 @@ module _ {q : ℕ} {t : List ℕ} (y : Ready q t) where
       heavy-own k = k ∙ ap (λ (s : ℕ). R .client s kind.count) is-heavy ∙ ready-ordered y .counted heavy heavy-there ∙ ap (countOf (P .window)) (sym is-heavy)
 
       pub heavy-count : {m : ℕ} → m ≡ clientWord t q c kind.count → m ≡ largestCount (plain P)
-      heavy-count k =
-          heavy-own k ∙ ap (countOf (P .window)) is-heavy
-          ∙ sym (count-plain (P .clients) (ready-right y .ids) heavy heavy-there (P .window) (ready-right y .owners))
-          ∙ ap (λ (s : ℕ). count s (plain P .window)) (heaviest-is P (ready-right y) h .1)
+      heavy-count k = heavy-own k ∙ ap (countOf (P .window)) is-heavy ∙ heaviest-count P (ready-right y) h
 
       -- its newest item
       pub heavy-newest : {r : ℕ} → r ≡ clientWord t q c kind.newest → Waits P r (newestItem heavy (item 0 0 0) (P .window))

@@ -1,25 +1,24 @@
--- An arriving client that is not turned away is not the one that loses a request: what the lookup found of it, and its count, are still right.
-use mathlib.Core.List.{List, [], _∷_}
-use mathlib.Core.Bool.{Bool, true, false, cond, _&&_}
-use mathlib.Core.Path.{_≡_, refl, sym, ap, _∙_, subst}
-use Prim.Native.Nat.{ℕ, suc, _≤_}
+-- The client that loses a request to an arrival stays, and is not the arriving one: what the lookup found of that one, and its count, are still right.
+use mathlib.Core.List.{List}
+use mathlib.Core.Bool.{true, false}
+use mathlib.Core.Path.{_≡_, sym, ap, _∙_, subst}
+use Prim.Native.Nat.{ℕ, _+_, _≤_, _<_}
 use native.Mathlib.Omega.{arith}
-use lib.Dec.{eqb}
 use lib.ListN.{length}
-use borrow.Author.Tests.{eqb-true, ne-eqb}
 use Rattle.table.specs.Kind as kind
 use Rattle.table.specs.Regions.{regions}
 use Rattle.table.specs.Owners.{orderWords}
-use Rattle.rules.specs.Rows.{lastOr, In}
-use Rattle.rules.specs.History.{Waiting, count, countOf, withoutNewest, heaviestClient, largestCount, full, turnedAway, choice}
+use Rattle.rules.specs.Rows.{lastOr}
+use Rattle.rules.specs.History.{Waiting, count, heaviestClient, largestCount, full, turnedAway, choice}
 use Rattle.rules.specs.History as history
-use Rattle.rules.specs.Picture.{Item, Picture, item, clientRows, idOf, requestOf, limitsOf, plain}
+use Rattle.rules.specs.Picture.{Item, Picture, item, clientRows, countOf, requestOf, limitsOf, plain}
 use Rattle.rules.specs.Steps.{newestItem, join, leave, arrived}
 use Rattle.rules.specs.Draw.{draw}
 use Rattle.rules.specs.Sound.{picture}
 use Rattle.rules.specs.Ready.{Ready}
 use Rattle.rules.proofs.Rule.{stays-light, choice-joined, choice-turned, choice-evicted}
-use Rattle.rules.proofs.Leaving.{heaviest-is, newest-is, evicted-request, evict-step}
+use Rattle.rules.proofs.Leaving.{heaviest-count, newest-is, evicted-request, evict-step}
+use Rattle.rules.proofs.Evicting.{others-kept}
 use Rattle.rules.proofs.Staying.{Staying, leave-staying}
 use Rattle.rules.proofs.Steps.{open-room}
 use Rattle.rules.proofs.Ready.{ready-right, ready-drawn}
@@ -33,27 +32,16 @@ use Rattle.questions.proofs.Kept.{ready-found, found-client}
 use Rattle.steps.proofs.Clients.{names}
 use Rattle.steps.proofs.Choices.{arrived-by, then-ready, then-picture, then-room}
 
--- the newest request of another client is none of i's
-count-without : (i h : ℕ) → (i ≡ h → ⊥) → (w : List history.Request) → count i (withoutNewest h w) ≡ count i w
-count-without i h n [] = refl
-count-without i h n (r ∷ w) = go (eqb (r .id) h) refl (eqb (count h w) 0) (count-without i h n w)
-  where
-    go : (a : Bool) → eqb (r .id) h ≡ a → (b : Bool) → count i (withoutNewest h w) ≡ count i w → count i (cond (a && b) w (r ∷ withoutNewest h w)) ≡ cond (eqb (r .id) i) (suc (count i w)) (count i w)
-    go true e true ih = rw (ne-eqb (r .id) i (λ f. n (sym f ∙ eqb-true (r .id) h e)))
-    go true e false ih = ap (λ (m : ℕ). cond (eqb (r .id) i) (suc m) m) ih
-    go false e b ih = ap (λ (m : ℕ). cond (eqb (r .id) i) (suc m) m) ih
-
 -- who is not turned away is not the heaviest
 not-heaviest : (s : Waiting) (i : ℕ) → turnedAway true (count i (s .window)) (largestCount s) ≡ false → i ≡ heaviestClient s → ⊥
 not-heaviest s i away e =
     let same : count i (s .window) ≡ largestCount s = ap (λ (x : ℕ). count x (s .window)) e in
-    let less = stays-light (count i (s .window)) (largestCount s) (omega (arith, same)) away in
-    omega (arith, same, less)
+    omega (arith, same, stays-light (count i (s .window)) (largestCount s) away)
 
 -- a table where the arriving request of client id can join, after another left or as it was: what the join asks, and what it is to the arrival
 pub record Arriving (q : ℕ) (t : List ℕ) (id : ℕ) (u : List ℕ) (c : code.Choice) : Type 0 where
-  pub asks : {at : Sought} {n : ℕ} → Seeks q t id at → n ≡ countOf (plain (picture t)) id
-      → Ready q u × ((Found (orderWords (regions q u) .id) (clientRows (picture u)) id (at .row) × Home q id at) × ((n ≡ countOf (plain (picture u)) id) × (1 ≤ length (picture u .freeItems))))
+  pub asks : {at : Sought} {n : ℕ} → Seeks q t id at → n ≡ history.countOf (plain (picture t)) id
+      → Ready q u × ((Found (orderWords (regions q u) .id) (clientRows (picture u)) id (at .row) × Home q id at) × ((n ≡ history.countOf (plain (picture u)) id) × (1 ≤ length (picture u .freeItems))))
   pub told : c ≡ asChoice (choice (limitsOf (picture t)) (plain (picture t)) id)
   pub joins : (ticket : ℕ) → join (picture u) id ticket ≡ arrived (picture t) id ticket
 
@@ -67,7 +55,16 @@ module _ {q : ℕ} {t : List ℕ} (y : Ready q t) (h : 1 ≤ length (picture t .
   abbrev gone : Item
   gone = newestItem (lastOr kind.none (clientRows P)) (item 0 0 0) (P .window)
 
-  -- after the newest item of the heaviest client left, where client id is not turned away
+  -- where client id is not turned away
+  module _ (id : ℕ) (away : turnedAway true (count id (plain P .window)) (largestCount (plain P)) ≡ false) where
+    light : count id (plain P .window) + 1 < largestCount (plain P)
+    light = stays-light (count id (plain P .window)) (largestCount (plain P)) away
+
+    -- the heaviest client has several
+    pub heavy-two : 2 ≤ countOf (P .window) (gone .client)
+    heavy-two = rw (newest-is P (ready-right y) h .client, heaviest-count P (ready-right y) h) (omega (arith, light))
+
+  -- and its newest item left
   module _ {a : List ℕ} (drawn : a ≡ draw (leave P gone)) (id : ℕ) (away : turnedAway true (count id (plain P .window)) (largestCount (plain P)) ≡ false) where
     ready : Ready q a
     ready = then-ready gone y (evict-step P (ready-right y) h) drawn
@@ -75,27 +72,25 @@ module _ {q : ℕ} {t : List ℕ} (y : Ready q t) (h : 1 ≤ length (picture t .
     is : picture a ≡ leave P gone
     is = then-picture gone y (evict-step P (ready-right y) h) drawn
 
-    staying : Staying (gone .client) (P .clients) (picture a .clients)
+    -- every client is where it was
+    staying : Staying (P .clients) (picture a .clients)
     staying =
-        subst (λ (Q : Picture). Staying (gone .client) (P .clients) (Q .clients)) (sym is)
-        (leave-staying P gone (ready-right y) (subst (λ (c : ℕ). In c (clientRows P)) (sym (newest-is P (ready-right y) h .client)) (heaviest-is P (ready-right y) h .0)))
-
-    other : id ≡ idOf (P .clients) (gone .client) → ⊥
-    other e = not-heaviest (plain P) id away (e ∙ ap (idOf (P .clients)) (newest-is P (ready-right y) h .client) ∙ heaviest-is P (ready-right y) h .1)
+        let u = newest-is P (ready-right y) h in
+        subst (λ (Q : Picture). Staying (P .clients) (Q .clients)) (sym is) (leave-staying P gone (u .others) (ready-right y) (u .put) (heavy-two id away))
 
     still-found : {c : ℕ} → Found (orderWords (regions q t) .id) (clientRows P) id c → Found (orderWords (regions q a) .id) (clientRows (picture a)) id c
     still-found {c} f =
         record {
           row = λ n. let (i, name) = found-client y f n in
-              let j = staying .stays c i (λ e. other (sym name ∙ ap (idOf (P .clients)) e)) in
-              (j, names ready c j ∙ staying .named c j ∙ name);
-          absent = λ n s j e. f .absent n s (staying .stood s j) (names y s (staying .stood s j) ∙ sym (staying .named s j) ∙ sym (names ready s j) ∙ e);
+              let j = staying .stays c i in
+              (j, names ready c j ∙ staying .named c ∙ name);
+          absent = λ n s j e. f .absent n s (staying .stood s j) (names y s (staying .stood s j) ∙ sym (staying .named s) ∙ sym (names ready s j) ∙ e);
         }
 
-    still-counted : {n : ℕ} → n ≡ countOf (plain P) id → n ≡ countOf (plain (picture a)) id
+    still-counted : {n : ℕ} → n ≡ history.countOf (plain P) id → n ≡ history.countOf (plain (picture a)) id
     still-counted e =
-        e ∙ sym (count-without id (heaviestClient (plain P)) (not-heaviest (plain P) id away) (plain P .window))
-        ∙ ap (λ (s : Waiting). countOf s id) (sym (ap plain is ∙ evict-step P (ready-right y) h .plain))
+        e ∙ sym (others-kept (heaviestClient (plain P)) (plain P .window) (omega (arith, light id away)) id (not-heaviest (plain P) id away))
+        ∙ ap (λ (s : Waiting). history.countOf s id) (sym (ap plain is ∙ evict-step P (ready-right y) h .plain))
 
     pub still-arriving : {x : Request} → full (limitsOf P) (plain P) ≡ true → x ≡ asStruct (requestOf (P .clients) gone) → Arriving q t id a (choices.Evicted x)
     still-arriving f told =

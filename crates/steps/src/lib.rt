@@ -1,4 +1,4 @@
-// Arrive, slide and serve on a ready table: the clients' order and the window, one after the other. One place joins, and one leaves.
+// Arrive, slide and serve on a ready table: the clients' order and the window, one after the other. A request joins; or one of several leaves, or a client's only one.
 ghost use mathlib.Core.Bool.{true};
 ghost use mathlib.Core.Path.{_≡_};
 ghost use Prim.Native.Nat.{_≤_};
@@ -23,11 +23,11 @@ use lookup::Sought;
 use table::LinkedTable;
 use table::Ticket;
 
-// The arrival rule where the window is full: whether a client with n waiting requests is turned away, m being the largest count.
+// The arrival rule where the window is full: whether a client with n waiting requests is turned away, m being the largest count. One more is counted in 64 bits, where it cannot wrap.
 fn turned_away(n: u32, m: u32) -> bool
     ensures { λ b. ⌜ b ≡ history.turnedAway true n m ⌝ }
 {
-    n == m
+    n as u64 + 1 >= m as u64
 }
 
 // Whether every place is taken.
@@ -58,28 +58,48 @@ fn join(t: &mut [u32], q: usize, at: Sought, n: u32, id: u32, ticket: Ticket)
     }
 }
 
-// The request in item row r leaves, one of n that wait of the client in row c, and is the reply.
-fn leave(t: &mut [u32], q: usize, s: &[u32; 1024], c: u32, n: u32, r: u32) -> Request
+// The request in item row r, which is one of the client's in row c.
+fn request_in(t: &[u32], q: usize, c: u32, r: u32) -> Request
     requires { ⌜ Ready q (now t) ⌝ }
-    requires { ⌜ IsSpread (now s) ⌝ }
     requires { ⌜ In r (itemRows (picture (now t))) × (itemIn r (picture (now t) .window) .client ≡ c) ⌝ }
-    requires { ⌜ n ≡ countOf (picture (now t) .window) c ⌝ }
     ensures { λ x. ⌜ x ≡ asStruct (requestOf (picture (now (t .entry)) .clients) (itemIn r (picture (now (t .entry)) .window))) ⌝ }
-    ensures { λ _. ⌜ now (t .exit) ≡ draw (steps.leave (picture (now (t .entry))) (itemIn r (picture (now (t .entry)) .window))) ⌝ }
 {
     let id = table::client(t, q, c, LinkedTable::ID);
     let ticket = table::ticket(t, q, r);
-    if n == 1 {
-        order::dismiss(t, q, s, c);
-        window::leave_only(t, q, c, r);
-    } else {
-        order::lower(t, q, c, n);
-        window::leave_one(t, q, c, r);
-    }
     Request { id, ticket }
 }
 
+// The request in item row r leaves, one of several, n, of the client in row c, which stays; it is the reply.
+fn leave_one(t: &mut [u32], q: usize, c: u32, n: u32, r: u32) -> Request
+    requires { ⌜ Ready q (now t) ⌝ }
+    requires { ⌜ In r (itemRows (picture (now t))) × (itemIn r (picture (now t) .window) .client ≡ c) ⌝ }
+    requires { ⌜ (n ≡ countOf (picture (now t) .window) c) × (2 ≤ n) ⌝ }
+    ensures { λ x. ⌜ x ≡ asStruct (requestOf (picture (now (t .entry)) .clients) (itemIn r (picture (now (t .entry)) .window))) ⌝ }
+    ensures { λ _. ⌜ now (t .exit) ≡ draw (steps.leave (picture (now (t .entry))) (itemIn r (picture (now (t .entry)) .window))) ⌝ }
+{
+    let gone = request_in(t, q, c, r);
+    order::lower(t, q, c, n);
+    window::leave_one(t, q, c, r);
+    gone
+}
+
+// The request in item row r leaves, the only one of the client in row c, which goes; it is the reply.
+fn leave_only(t: &mut [u32], q: usize, s: &[u32; 1024], c: u32, r: u32) -> Request
+    requires { ⌜ Ready q (now t) ⌝ }
+    requires { ⌜ IsSpread (now s) ⌝ }
+    requires { ⌜ In r (itemRows (picture (now t))) × (itemIn r (picture (now t) .window) .client ≡ c) ⌝ }
+    requires { ⌜ countOf (picture (now t) .window) c ≡ 1 ⌝ }
+    ensures { λ x. ⌜ x ≡ asStruct (requestOf (picture (now (t .entry)) .clients) (itemIn r (picture (now (t .entry)) .window))) ⌝ }
+    ensures { λ _. ⌜ now (t .exit) ≡ draw (steps.leave (picture (now (t .entry))) (itemIn r (picture (now (t .entry)) .window))) ⌝ }
+{
+    let gone = request_in(t, q, c, r);
+    order::dismiss(t, q, s, c);
+    window::leave_only(t, q, c, r);
+    gone
+}
+
 // Arrive: the request joins; where the window is full, the newest of the heaviest client leaves first, or the arriving client is turned away.
+// Who is not turned away has two requests fewer than the heaviest client at least: that client has several, and stays.
 pub fn arrive(t: &mut [u32], q: usize, s: &[u32; 1024], id: u32, ticket: Ticket) -> Choice
     requires { ⌜ Ready q (now t) ⌝ }
     requires { ⌜ IsSpread (now s) ⌝ }
@@ -96,7 +116,7 @@ pub fn arrive(t: &mut [u32], q: usize, s: &[u32; 1024], id: u32, ticket: Ticket)
             return Choice::Turned;
         }
         let r = window::newest(t, q, c);
-        choice = Choice::Evicted(leave(t, q, s, c, m, r));
+        choice = Choice::Evicted(leave_one(t, q, c, m, r));
     }
     // the client that lost a request is another one, so what was found of this one is still right
     join(t, q, at, n, id, ticket);
@@ -116,7 +136,10 @@ pub fn serve(t: &mut [u32], q: usize, s: &[u32; 1024]) -> Left
     let r = table::header(t, q, LinkedTable::FRONT_AT);
     let c = table::item(t, q, r, LinkedTable::OWNER);
     let n = table::client(t, q, c, LinkedTable::COUNT);
-    Left::One(leave(t, q, s, c, n, r))
+    if n == 1 {
+        return Left::One(leave_only(t, q, s, c, r));
+    }
+    Left::One(leave_one(t, q, c, n, r))
 }
 
 // Slide: where the window is full, the front request leaves first, as if it was served; then the new one arrives, and joins, for there is room.

@@ -29,7 +29,7 @@ returns c =
     let a = o .before .before .before .before .before .before .before .args in
     let f = sym (o .r .given .1) ∙ o .before .before .of .ensures in
     let (reply, numbers) = call-refuses (arriving (a .id)) _ f in
-    (reply, (numbers, refused-words (λ P. steps.arrived P (a .id) (a .ticket)) _ 48 f))
+    (reply, (numbers, refused-words (λ P. steps.arrived P (a .id) (a .ticket)) _ 47 f))
 
 returns-2 : tie.Need-returns-2
 returns-2 c =
@@ -39,7 +39,7 @@ returns-2 c =
     let a = o .before .before .before .before .before .before .before .args in
     let f = sym (o .q .given .1) ∙ o .before .before .of .ensures in
     let is = z .size .ensures in
-    let words = changed-words (λ P. steps.arrived P (a .id) (a .ticket)) _ f is (l .arrive .ensures .1) 48 (search needs) (arrive-few (part-ready _ f is) (a .id) (a .ticket)) in
+    let words = changed-words (λ P. steps.arrived P (a .id) (a .ticket)) _ f is (l .arrive .ensures .1) 47 (search needs) (arrive-few (part-ready _ f is) (a .id) (a .ticket)) in
     let (reply, numbers) = call-answers (arriving (a .id)) _ f is (c .offered-arrive .ensures ∙ ap arrivedOf (l .arrive .ensures .0)) in
     (reply, (numbers, words))
 

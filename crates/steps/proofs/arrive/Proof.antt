@@ -8,7 +8,7 @@ use Rattle.rules.specs.Draw.{draw}
 use Rattle.rules.proofs.Steps.{arrive-step}
 use Rattle.rules.proofs.Ready.{ready-right, ready-sized}
 use Rattle.questions.proofs.Kept.{ready-kept, ready-some, ready-found, found-low}
-use Rattle.steps.proofs.Choices.{some-wait, away, same-long}
+use Rattle.steps.proofs.Choices.{some-wait, away, two-wait, same-long}
 use Rattle.steps.proofs.Reading.{waits-left, heavy-row, heavy-own, heavy-count, heavy-newest, heavy-owns}
 use Rattle.steps.proofs.Still.{Arriving, arriving-so, still-arriving, open-arriving, turned-stays}
 use Rattle.steps.proofs.arrive.Statement.{statement}
@@ -58,16 +58,18 @@ newest-requires c κs =
     let p = f .before .before .before .before .before .before .before .pre in
     (ready-sized (p .0), heavy-row (p .0) (some-wait (p .0) (f .full .ensures) (i .if1 .taken)) (h .header .ensures))
 
-leave-requires : tie.Need-leave-requires
-leave-requires c κs =
+leave-one-requires : tie.Need-leave-one-requires
+leave-one-requires c κs =
     let e = c .before in
-    let m = e .before .before .before .before in
+    let i2 = e .before .before in
+    let a = i2 .before in
+    let m = a .before in
     let h = m .before .before in
     let i = h .before .before in
     let f = i .before in
     let p = f .before .before .before .before .before .before .before .pre in
     let some = some-wait (p .0) (f .full .ensures) (i .if1 .taken) in
-    (p .0, (p .1, ((heavy-newest (p .0) some (h .header .ensures) (e .newest .ensures) .there, heavy-owns (p .0) some (h .header .ensures) (e .newest .ensures)), heavy-own (p .0) some (h .header .ensures) (m .client .ensures))))
+    (p .0, ((heavy-newest (p .0) some (h .header .ensures) (e .newest .ensures) .there, heavy-owns (p .0) some (h .header .ensures) (e .newest .ensures)), (heavy-own (p .0) some (h .header .ensures) (m .client .ensures), two-wait _ _ (a .turned-away .ensures) (i2 .if2 .left))))
 
 -- where the two ways meet
 arriving : (j : tie.Joined1) → let a = j .before .before .before .before .before .before .before .before .args in Arriving (a .q) (now (a .t)) (a .id) (j .if1 .t) (j .if1 .choice)
@@ -110,4 +112,4 @@ same-length-2 c =
     same-long (p .0) (arrive-step _ (ready-right (p .0)) _ _) (returns-2 c .1)
 
 pub arrive-spec : {M : Type 1} → statement M
-arrive-spec = tie.close (tie.spec find-requires count-in-requires (λ c κs. search needs) header-requires client-requires (λ c κs. search needs) (λ c. search needs) returns newest-requires leave-requires join-requires same-length-2 returns-2)
+arrive-spec = tie.close (tie.spec find-requires count-in-requires (λ c κs. search needs) header-requires client-requires (λ c κs. search needs) (λ c. search needs) returns newest-requires leave-one-requires join-requires same-length-2 returns-2)

@@ -1,10 +1,12 @@
 -- By whether anybody waits; the front item leaves.
-use mathlib.Core.Path.{ap, _∙_}
+use mathlib.Core.Path.{sym, ap, _∙_, subst}
+use Prim.Native.Nat.{_≤_}
 use borrow.Author.Needs.{needs}
 use lib.Dec.{lit<}
 use Rattle.rules.proofs.Ready.{ready-sized}
 use Rattle.answers.specs.declared.Left.the-variants as lefts
 use Rattle.steps.proofs.Choices.{serve-idle, serve-some, serve-front}
+use Rattle.steps.proofs.Leaving.{several}
 use Rattle.steps.proofs.Reading.{requests-are, waits-left, front-waits, front-low, front-owner, owner-low, owner-count}
 use Rattle.steps.proofs.serve.Statement.{statement}
 use Rattle.steps.proofs.serve.Tie as tie
@@ -42,9 +44,10 @@ client-requires c κs =
     let p = h .before .before .before .pre in
     (ready-sized (p .0), (owner-low (p .0) (serve-some (p .0) (requests-are (p .0) (h .header .ensures)) (i .if1 .left)) (f .header2 .ensures) (o .item .ensures), lit< tt))
 
-leave-requires : tie.Need-leave-requires
-leave-requires c κs =
-    let n = c .before in
+leave-only-requires : tie.Need-leave-only-requires
+leave-only-requires c κs =
+    let k = c .before in
+    let n = k .before in
     let o = n .before .before in
     let f = o .before .before in
     let i = f .before .before in
@@ -52,18 +55,45 @@ leave-requires c κs =
     let p = h .before .before .before .pre in
     let some = serve-some (p .0) (requests-are (p .0) (h .header .ensures)) (i .if1 .left) in
     let e = f .header2 .ensures in
-    (p .0, (p .1, ((front-waits (p .0) some e .there, front-owner (p .0) some e (o .item .ensures)), owner-count (p .0) some e (o .item .ensures) (n .client .ensures))))
+    (p .0, (p .1, ((front-waits (p .0) some e .there, front-owner (p .0) some e (o .item .ensures)), sym (owner-count (p .0) some e (o .item .ensures) (n .client .ensures)) ∙ k .if2 .taken)))
 
 returns-2 : tie.Need-returns-2
 returns-2 c =
     let l = c .before .before in
-    let f = l .before .before .before .before .before .before in
+    let f = l .before .before .before .before .before .before .before in
     let i = f .before .before in
     let h = i .before in
     let p = h .before .before .before .pre in
-    let left = waits-left (front-waits (p .0) (serve-some (p .0) (requests-are (p .0) (h .header .ensures)) (i .if1 .left)) (f .header2 .ensures)) (l .leave .ensures .0) (l .leave .ensures .1) in
+    let left = waits-left (front-waits (p .0) (serve-some (p .0) (requests-are (p .0) (h .header .ensures)) (i .if1 .left)) (f .header2 .ensures)) (l .leave-only .ensures .0) (l .leave-only .ensures .1) in
+    let r = serve-front (p .0) (requests-are (p .0) (h .header .ensures)) (i .if1 .left) (left .1) in
+    (ap lefts.One (left .0) ∙ r .0, r .1)
+
+leave-one-requires : tie.Need-leave-one-requires
+leave-one-requires c κs =
+    let k = c .before in
+    let n = k .before in
+    let o = n .before .before in
+    let f = o .before .before in
+    let i = f .before .before in
+    let h = i .before in
+    let p = h .before .before .before .pre in
+    let some = serve-some (p .0) (requests-are (p .0) (h .header .ensures)) (i .if1 .left) in
+    let e = f .header2 .ensures in
+    let many = owner-count (p .0) some e (o .item .ensures) (n .client .ensures) in
+    let its = front-owner (p .0) some e (o .item .ensures) in
+    let there = front-waits (p .0) some e .there in
+    (p .0, ((there, its), (many, subst (λ m. 2 ≤ m) (sym many) (several (p .0) _ there _ its (λ z. k .if2 .left (many ∙ z))))))
+
+returns-3 : tie.Need-returns-3
+returns-3 c =
+    let l = c .before .before in
+    let f = l .before .before .before .before .before .before .before in
+    let i = f .before .before in
+    let h = i .before in
+    let p = h .before .before .before .pre in
+    let left = waits-left (front-waits (p .0) (serve-some (p .0) (requests-are (p .0) (h .header .ensures)) (i .if1 .left)) (f .header2 .ensures)) (l .leave-one .ensures .0) (l .leave-one .ensures .1) in
     let r = serve-front (p .0) (requests-are (p .0) (h .header .ensures)) (i .if1 .left) (left .1) in
     (ap lefts.One (left .0) ∙ r .0, r .1)
 
 pub serve-spec : {M : Type 1} → statement M
-serve-spec = tie.close (tie.spec header-requires (λ c. search needs) returns header-requires-2 item-requires client-requires leave-requires (λ c. search needs) returns-2)
+serve-spec = tie.close (tie.spec header-requires (λ c. search needs) returns header-requires-2 item-requires client-requires leave-only-requires (λ c. search needs) returns-2 leave-one-requires (λ c. search needs) returns-3)

@@ -1,4 +1,5 @@
 -- The rule, opened here alone. Assumes nothing.
+use borrow.Author.Needs.{needs}
 use mathlib.Core.Path.{refl}
 use Rattle.rules.specs.History.{turnedAway}
 use Rattle.steps.proofs.turned_away.Statement.{statement}
@@ -9,4 +10,4 @@ unfolding turnedAway
 returns c = refl
 
 pub turned-away-spec : {M : Type 1} → statement M
-turned-away-spec = tie.close (tie.spec returns)
+turned-away-spec = tie.close (tie.spec (λ c. search needs) returns)
