@@ -86,7 +86,7 @@ static uint32_t count_of(struct direct *d, uint32_t id) {
 static unsigned arrive(struct direct *d, uint32_t id, uint32_t ticket) {
     unsigned happened = FLAT_JOINED;
     if (d->requests == d->places) {
-        if (count_of(d, id) == d->heaviest_count) {
+        if (count_of(d, id) + 1 >= d->heaviest_count) {
             return FLAT_TURNED;
         }
         leave(d, newest(d, d->heaviest_id) - 1);

@@ -183,23 +183,42 @@ static void join(struct view v, uint32_t c, uint32_t id, uint32_t ticket) {
     row[NEWEST] = r;
 }
 
-static struct flat_left leave(struct view v, uint32_t r, uint32_t happened) {
-    uint32_t *it = item(v, r), c = it[OWNER], *row = client(v, c);
-    struct flat_left left = {0, happened, row[ID], it[TICKET]};
-    uint32_t earlier = it[EARLIER], later = it[LATER], own_earlier = it[OWN_EARLIER], own_later = it[OWN_LATER];
-    *(earlier == NONE ? &v.t[FRONT] : &item(v, earlier)[LATER]) = later;
-    *(later == NONE ? &v.t[BACK] : &item(v, later)[EARLIER]) = earlier;
-    if (row[WAITING] == 1) {
-        dismiss(v, c);
-    } else {
-        *(own_earlier == NONE ? &row[OLDEST] : &item(v, own_earlier)[OWN_LATER]) = own_later;
-        *(own_later == NONE ? &row[NEWEST] : &item(v, own_later)[OWN_EARLIER]) = own_earlier;
-        lower(v, c);
-    }
+static inline void free_item(struct view v, uint32_t r) {
+    uint32_t *it = item(v, r);
     memset(it, 0, ITEM * sizeof it[0]);
     it[LATER] = v.t[FREE_ITEM];
     v.t[FREE_ITEM] = r;
     v.t[REQUESTS]--;
+}
+
+/* The front request, which is its client's oldest. */
+static struct flat_left leave(struct view v, uint32_t happened) {
+    uint32_t r = v.t[FRONT], *it = item(v, r), c = it[OWNER], *row = client(v, c), later = it[LATER], own_later = it[OWN_LATER];
+    struct flat_left left = {0, happened, row[ID], it[TICKET]};
+    v.t[FRONT] = later;
+    *(later == NONE ? &v.t[BACK] : &item(v, later)[EARLIER]) = NONE;
+    if (row[WAITING] == 1) {
+        dismiss(v, c);
+    } else {
+        row[OLDEST] = own_later;
+        item(v, own_later)[OWN_EARLIER] = NONE;
+        lower(v, c);
+    }
+    free_item(v, r);
+    return left;
+}
+
+/* The heaviest client's newest request: that client has an earlier one, so it stays. */
+static struct flat_left evict(struct view v) {
+    uint32_t c = v.t[HEAVIEST], *row = client(v, c), r = row[NEWEST], *it = item(v, r);
+    uint32_t earlier = it[EARLIER], later = it[LATER], own_earlier = it[OWN_EARLIER];
+    struct flat_left left = {0, FLAT_EVICTED, row[ID], it[TICKET]};
+    item(v, earlier)[LATER] = later;
+    *(later == NONE ? &v.t[BACK] : &item(v, later)[EARLIER]) = earlier;
+    row[NEWEST] = own_earlier;
+    item(v, own_earlier)[OWN_LATER] = NONE;
+    lower(v, c);
+    free_item(v, r);
     return left;
 }
 
@@ -207,12 +226,12 @@ static inline struct flat_left arrive(struct view v, uint32_t id, uint32_t ticke
     struct flat_left left = {0, FLAT_JOINED, 0, 0};
     uint32_t c = find(v, id);
     if (v.t[REQUESTS] == v.q) {
-        const uint32_t *heaviest = client(v, v.t[HEAVIEST]);
-        if (c != NONE && client(v, c)[WAITING] == heaviest[WAITING]) {
+        uint32_t count = c == NONE ? 0 : client(v, c)[WAITING];
+        if (count + 1 >= client(v, v.t[HEAVIEST])[WAITING]) {
             left.happened = FLAT_TURNED;
             return left;
         }
-        left = leave(v, heaviest[NEWEST], FLAT_EVICTED);
+        left = evict(v);
     }
     join(v, c, id, ticket);
     return left;
@@ -221,7 +240,7 @@ static inline struct flat_left arrive(struct view v, uint32_t id, uint32_t ticke
 static inline struct flat_left slide(struct view v, uint32_t id, uint32_t ticket) {
     struct flat_left left = {0, FLAT_JOINED, 0, 0};
     if (v.t[REQUESTS] == v.q) {
-        left = leave(v, v.t[FRONT], FLAT_PASSED);
+        left = leave(v, FLAT_PASSED);
     }
     join(v, find(v, id), id, ticket);
     return left;
@@ -231,7 +250,7 @@ static inline struct flat_left serve(struct view v) {
     if (v.t[REQUESTS] == 0) {
         return (struct flat_left){5, 0, 0, 0};
     }
-    return leave(v, v.t[FRONT], FLAT_SERVED);
+    return leave(v, FLAT_SERVED);
 }
 
 /* The check. */

@@ -188,7 +188,7 @@ struct hitters {
         unsigned happened = FLAT_JOINED;
         if (queue.size() == places) {
             CountNode *cn = find(id), &heaviest = counts.back();
-            if (cn != nullptr && cn->count == heaviest.count) {
+            if ((cn == nullptr ? 0 : cn->count) + 1 >= heaviest.count) {
                 return FLAT_TURNED;
             }
             leave(heaviest.items.back().item);

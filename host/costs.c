@@ -11,11 +11,18 @@
 enum { LARGEST = 1000, MOST_WORDS = 16 + 16 * LARGEST, MOST_CLIENTS = 2 * LARGEST, MOST_REPEATS = 101 };
 enum { COMMAND = 9, COMMANDS = 1000, FILLING = 5 * LARGEST };
 
-/* One table, for single calls and for a run, and the arrivals as pairs and as commands. */
+enum kind { ARRIVE = 1, SLIDE = 2 };
+
+struct request {
+    enum kind kind;
+    uint32_t id, ticket;
+};
+
+/* One table, for single calls and for a run, and the requests as numbers and as commands. */
 static uint32_t by_calls[MOST_WORDS], by_run[MOST_WORDS];
 static size_t words;
 static uint32_t ids[MOST_CLIENTS];
-static uint32_t requests[FILLING][2];
+static struct request requests[FILLING];
 static uint8_t commands[FILLING * COMMAND];
 static uint32_t spread[1024];
 
@@ -64,17 +71,18 @@ static void choose_ids(size_t q, int crowded)
     }
 }
 
-/* So many arrivals of these clients, evenly. */
-static void write_arrivals(size_t q, size_t count)
+/* So many requests of these clients, evenly. Every other one slides: after arrivals alone every client would soon have one
+ * request or none, and every arrival be turned away. */
+static void write_requests(size_t q, size_t count)
 {
     for (size_t i = 0; i < count; i++) {
         uint8_t *at = commands + COMMAND * i;
-        requests[i][0] = ids[roll() % (2 * q)];
-        requests[i][1] = (uint32_t)i;
-        at[0] = 1;
+        const struct request r = { i % 2 == 0 ? SLIDE : ARRIVE, ids[roll() % (2 * q)], (uint32_t)i };
+        requests[i] = r;
+        at[0] = (uint8_t)r.kind;
         for (unsigned j = 0; j < 4; j++) {
-            at[1 + j] = (uint8_t)(requests[i][0] >> 8 * j);
-            at[5 + j] = (uint8_t)(requests[i][1] >> 8 * j);
+            at[1 + j] = (uint8_t)(r.id >> 8 * j);
+            at[5 + j] = (uint8_t)(r.ticket >> 8 * j);
         }
     }
 }
@@ -84,16 +92,16 @@ static void run(size_t count)
     must(boomspool_run(by_run, words, commands, COMMAND * count, count).done == count, "a run was refused");
 }
 
-/* A window that has been full for a while, and the next arrivals. */
+/* A window that has been full for a while, and the next requests. */
 static void prepare(size_t q, int crowded)
 {
     words = boomspool_words(q);
     must(boomspool_lay_out(by_run, words, q) == BOOMSPOOL_OK, "lay-out was refused");
     choose_ids(q, crowded);
-    write_arrivals(q, 5 * q);
+    write_requests(q, 5 * q);
     run(5 * q);
     memcpy(by_calls, by_run, sizeof by_calls);
-    write_arrivals(q, COMMANDS);
+    write_requests(q, COMMANDS);
 }
 
 static double now(void)
@@ -114,11 +122,17 @@ static double check_time(size_t q)
     return (now() - from) / (double)each;
 }
 
+static uint32_t call(const struct request *r)
+{
+    return r->kind == SLIDE ? boomspool_slide(by_calls, words, r->id, r->ticket).number
+                            : boomspool_arrive(by_calls, words, r->id, r->ticket).number;
+}
+
 static double single_time(void)
 {
     const double from = now();
     for (size_t i = 0; i < COMMANDS; i++) {
-        must(boomspool_arrive(by_calls, words, requests[i][0], requests[i][1]).number == BOOMSPOOL_OK, "an arrival was refused");
+        must(call(&requests[i]) == BOOMSPOOL_OK, "a request was refused");
     }
     return (now() - from) / COMMANDS;
 }

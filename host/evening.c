@@ -79,15 +79,16 @@ static void call(uint32_t *words, struct command c, struct boomspool_replayed *s
     }
 }
 
-/* Document 01's session again and again, with other tickets each time, between serves of an empty window and ids and tickets
- * of every size. */
+/* Document 01's session again and again, with other tickets each time. Behind it a client that waits evicts, then one that does
+ * not, and where every count is 1 an absent client is turned away; serves of an empty window, ids and tickets of every size. */
 static void choose_commands(void)
 {
     static const struct command SOME[] = {
-        { SERVE, 0, 0 },  { ARRIVE, 1, 10 }, { ARRIVE, 1, 11 }, { ARRIVE, 2, 12 },   { ARRIVE, 1, 13 },
-        { ARRIVE, 3, 14 }, { ARRIVE, 1, 15 }, { ARRIVE, 2, 16 }, { SLIDE, 3, 17 },    { SERVE, 0, 0 },
-        { ARRIVE, UINT32_MAX, UINT32_MAX },   { SLIDE, 0, 0 },   { SERVE, 0, 0 },     { SERVE, 0, 0 },
-        { SERVE, 0, 0 },  { SLIDE, 0x01020304, 0xF0E0D0C0 },     { SERVE, 0, 0 },     { SERVE, 0, 0 },
+        { SERVE, 0, 0 },   { ARRIVE, 1, 10 }, { ARRIVE, 1, 11 }, { ARRIVE, 2, 12 }, { ARRIVE, 1, 13 },
+        { ARRIVE, 3, 14 }, { ARRIVE, 1, 15 }, { ARRIVE, 2, 16 }, { SLIDE, 3, 17 },  { SERVE, 0, 0 },
+        { ARRIVE, 3, 18 }, { ARRIVE, 2, 19 }, { ARRIVE, UINT32_MAX, UINT32_MAX },   { SLIDE, 0, 0 },
+        { ARRIVE, 4, 20 }, { SERVE, 0, 0 },   { SERVE, 0, 0 },   { SERVE, 0, 0 },   { SLIDE, 0x01020304, 0xF0E0D0C0 },
+        { SERVE, 0, 0 },   { SERVE, 0, 0 },
     };
     for (size_t i = 0; i < COMMANDS; i++) {
         commands[i] = SOME[i % (sizeof SOME / sizeof SOME[0])];
@@ -107,9 +108,10 @@ void make_evening(void)
         after[i + 1].sums.blocks = i / IN_BLOCK + 1;
         call(after[i + 1].table, commands[i], &after[i + 1].sums);
     }
-    /* there is some of everything to be wrong about */
+    /* some of everything to be wrong about, worked out by hand: nine times those commands but for the very last serve */
     const struct boomspool_replayed *all = &after[COMMANDS].sums;
-    CHECK(all->joined > 50 && all->evicted > 10 && all->passed > 5 && all->served > 40 && all->turned > 5 && all->idle > 5);
+    CHECK(all->joined == 9 * 11 && all->evicted == 9 * 3 && all->passed == 9 * 2);
+    CHECK(all->served == 9 * 6 - 1 && all->turned == 9 * 3 && all->idle == 9);
     check_part("the evening");
 }
 

@@ -67,6 +67,7 @@ int main(void)
     arrive(table, words, 1, 13);
     arrive(table, words, 3, 14);
     arrive(table, words, 1, 15);
+    arrive(table, words, 2, 16);
     list(table, words);
 
     const struct boomspool_served first = boomspool_serve(table, words);

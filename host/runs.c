@@ -17,8 +17,8 @@ static const uint32_t SESSION[COMMANDS][3] = {
 /* What a run of the first n of them reports. */
 static const struct boomspool_ran AFTER[COMMANDS + 1] = {
     { 0, 0, 0, 0, 0, 0, 0, 0 }, { 0, 1, 1, 0, 0, 0, 0, 0 }, { 0, 2, 2, 0, 0, 0, 0, 0 }, { 0, 3, 3, 0, 0, 0, 0, 0 },
-    { 0, 4, 4, 0, 0, 0, 0, 0 }, { 0, 5, 5, 1, 0, 0, 0, 0 }, { 0, 6, 5, 1, 0, 0, 1, 0 }, { 0, 7, 6, 2, 0, 0, 1, 0 },
-    { 0, 8, 7, 2, 1, 0, 1, 0 }, { 0, 9, 7, 2, 1, 1, 1, 0 },
+    { 0, 4, 4, 0, 0, 0, 0, 0 }, { 0, 5, 5, 1, 0, 0, 0, 0 }, { 0, 6, 5, 1, 0, 0, 1, 0 }, { 0, 7, 5, 1, 0, 0, 2, 0 },
+    { 0, 8, 6, 1, 1, 0, 2, 0 }, { 0, 9, 6, 1, 1, 1, 2, 0 },
 };
 
 static void put(uint8_t *at, uint32_t kind, uint32_t id, uint32_t ticket)
@@ -179,21 +179,21 @@ static void refusals(void)
     check_part("refused runs");
 }
 
-/* Each total stays at its largest value once there. */
+/* Each total stays at its largest value once there: joined comes just to it, turned would pass it, passed is there. */
 static void day_record(void)
 {
     struct lent_bytes b = bytes_of(BYTES);
     struct lent t = lent_of(WORDS, NO_PAGE);
-    struct boomspool_day day = { UINT64_MAX - 7, UINT64_MAX - 1, UINT64_MAX, UINT64_MAX - 3, 40, UINT64_MAX };
+    struct boomspool_day day = { UINT64_MAX - 6, 40, UINT64_MAX, UINT64_MAX - 3, UINT64_MAX - 1, UINT64_MAX };
     check_case("the day record", 0);
     CHECK(boomspool_lay_out(t.words, t.count, PLACES) == BOOMSPOOL_OK);
     CHECK(boomspool_run_day(t.words, t.count, b.at, BYTES, BUDGET, &day).stop == BOOMSPOOL_ALL_DONE);
-    CHECK(day.joined == UINT64_MAX && day.evicted == UINT64_MAX && day.passed == UINT64_MAX);
-    CHECK(day.served == UINT64_MAX - 2 && day.turned == 41 && day.idle == UINT64_MAX);
+    CHECK(day.joined == UINT64_MAX && day.evicted == 41 && day.passed == UINT64_MAX);
+    CHECK(day.served == UINT64_MAX - 2 && day.turned == UINT64_MAX && day.idle == UINT64_MAX);
     CHECK(boomspool_lay_out(t.words, t.count, PLACES) == BOOMSPOOL_OK);
     CHECK(boomspool_run_day(t.words, t.count, b.at, BYTES, 8, &day).stop == BOOMSPOOL_BUDGET_SPENT);
-    CHECK(day.joined == UINT64_MAX && day.evicted == UINT64_MAX && day.passed == UINT64_MAX);
-    CHECK(day.served == UINT64_MAX - 2 && day.turned == 42 && day.idle == UINT64_MAX);
+    CHECK(day.joined == UINT64_MAX && day.evicted == 42 && day.passed == UINT64_MAX);
+    CHECK(day.served == UINT64_MAX - 2 && day.turned == UINT64_MAX && day.idle == UINT64_MAX);
     lent_back(&b.lent);
     lent_back(&t);
     check_part("the day record");

@@ -19,7 +19,7 @@
 #include <stdint.h>
 
 /* The number of this header: it rises with each landing that changes it. */
-#define BOOMSPOOL_VERSION 2
+#define BOOMSPOOL_VERSION 3
 
 /* A recording is a file of blocks. Each has 56 commands of 9 bytes, as a run takes them; at byte 504 how many of them are used
  * (1 to 56; the bytes of the others are 0), at 506 the block's number from 0, two bytes each; at 508 the check in four, which
@@ -150,9 +150,10 @@ size_t boomspool_words(size_t places);
  * Returns 0, or 1 where places is 0 or over 1,000, or 2 where there are fewer words than that. */
 uint32_t boomspool_lay_out(uint32_t *table, size_t words, size_t places);
 
-/* A request arrives. It joins at the back (1); or the window is full and the newest request of the heaviest client
- * leaves for it (2), named in the reply; or its client has the largest count itself and is turned away (3), which
- * alters nothing and is no refusal. Refusals: 2, 3. */
+/* A request arrives. It joins at the back (1). Or the window is full: then its client is turned away (3) where its count plus
+ * one is at least the largest count, an absent client having 0, which alters nothing and is no refusal; else the newest
+ * request of the heaviest client leaves for it (2), named in the reply. That client has another one, and still waits.
+ * Refusals: 2, 3. */
 struct boomspool_arrived boomspool_arrive(uint32_t *table, size_t words, uint32_t id, uint32_t ticket);
 
 /* A request joins at the back; where the window is full, the front request leaves first, and the reply names it.

@@ -67,12 +67,28 @@ static void few_written(const struct lent *l, size_t most) {
 
 static uint32_t happened_number(enum event e) { return e == JOINED ? 1 : e == EVICTED ? 2 : e == TURNED_AWAY ? 3 : 0; }
 
+/* What W-203 is for, by the archive's own counts: who lost a request to an arrival still waits, with no fewer than the client that
+   arrived; who was turned away would have had its share with this one. */
+static void compare_shares(const uint32_t *t, size_t words, uint32_t id, struct boomspool_arrived r) {
+    uint64_t has = boomspool_count(t, words, id).count;
+    if (r.happened == BOOMSPOOL_EVICTED) {
+        uint64_t left = boomspool_count(t, words, r.id).count;
+        if (left < 1 || has > left) {
+            differ("an eviction leaves the client that arrived more than the other one, or that one none", has, left);
+        }
+    }
+    if (r.happened == BOOMSPOOL_TURNED_AWAY && (has + 1) * t[H_CLIENTS] < t[H_Q]) {
+        differ("turned away under its share", (has + 1) * t[H_CLIENTS], t[H_Q]);
+    }
+}
+
 static void compare_arrive(uint32_t *t, size_t words, struct answer a, struct request r) {
     struct boomspool_arrived ours = boomspool_arrive(t, words, r.id, r.ticket);
     same("arrive: number", ours.number, a.number);
     same("arrive: what happened", ours.happened, happened_number(a.event));
     same("arrive: id that left", ours.id, a.left.id);
     same("arrive: ticket that left", ours.ticket, a.left.ticket);
+    compare_shares(t, words, r.id, ours);
 }
 
 static void compare_slide(uint32_t *t, size_t words, struct answer a, struct request r) {

@@ -8,7 +8,8 @@
 #include <stdlib.h>
 #include <string.h>
 
-enum { MOST_IDS = 2 * LARGEST_Q, ASKED_IDS = 16, RUN_COMMANDS = 2000 };
+/* In each hundredth of the whole every event must have been met so often. */
+enum { MOST_IDS = 2 * LARGEST_Q, ASKED_IDS = 16, RUN_COMMANDS = 2000, LEAST_MET = 300 };
 
 /* How often each command comes, of a hundred, and whose requests they are. */
 enum whose { EVENLY, HEAVY_TAIL, ONE_AGGRESSOR, NEWCOMERS };
@@ -20,6 +21,7 @@ static const struct mix mixes[] = {
     {"slides", 4, 92, EVENLY},
     {"drained", 42, 4, EVENLY},
     {"newcomers", 60, 20, NEWCOMERS},
+    {"slides and arrivals", 48, 48, EVENLY},
 };
 enum { MIXES = sizeof mixes / sizeof mixes[0] };
 
@@ -270,6 +272,15 @@ static void report(void) {
            sums.stops[7], sums.stops[8], sums.calls[RUN_DAY]);
 }
 
+static void met_enough(size_t part) {
+    for (size_t e = JOINED; e <= SERVED; e++) {
+        if (sums.events[e] < LEAST_MET * part) {
+            printf("commands: FAILED: an event was not met %zu times\n", LEAST_MET * part);
+            exit(1);
+        }
+    }
+}
+
 /* `part` in a hundred of the whole. */
 int main(int argc, char **argv) {
     size_t part = argc > 1 ? (size_t)atoi(argv[1]) : 100;
@@ -286,5 +297,6 @@ int main(int argc, char **argv) {
         }
     }
     report();
+    met_enough(part);
     return 0;
 }

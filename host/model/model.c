@@ -82,7 +82,7 @@ struct answer model_arrive(struct model *m, struct request r) {
     struct answer a = {0, JOINED, {0, 0}};
     if (full(m)) {
         struct client heaviest = m->order[m->clients - 1];
-        if (model_count(m, r.id) == heaviest.count) {
+        if (model_count(m, r.id) + 1 >= heaviest.count) {
             a.event = TURNED_AWAY;
             return a;
         }

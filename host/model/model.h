@@ -1,4 +1,4 @@
-/* The limiter as two plain lists, written from document 01 alone: it knows no rows and no links. */
+/* The limiter as two plain lists, written from document 01 and W-203 of document 02 alone: it knows no rows and no links. */
 #ifndef MODEL_H
 #define MODEL_H
 #include <stdbool.h>

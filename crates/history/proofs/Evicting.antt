@@ -10,32 +10,25 @@ use Rattle.rules.specs.History as history
 use Rattle.rules.specs.History.{Request, Waiting, Limits, Choice, request, count, choice}
 use Rattle.rules.specs.Picture.{limitsOf, plain}
 use Rattle.rules.specs.Commands as commands
-use Rattle.rules.specs.Commands.{Command, arriving, outcome, ofChoice}
+use Rattle.rules.specs.Commands.{Command, arriving, Arrival, outcome, ofChoice}
 use Rattle.rules.specs.Run.{after, nextAll}
 use Rattle.rules.specs.Sound.{Right}
 use Rattle.rules.specs.Verdict.{layOutNumber, laidOut}
-use Rattle.rules.proofs.Sharing.{Fair, right-fair}
+use Rattle.rules.proofs.Sharing.{Fair}
 use Rattle.rules.proofs.Run.{all-step}
 use Rattle.rules.proofs.Run.{after-append as commands-append}
 use Rattle.rules.proofs.Evicting as evicting
-use Rattle.rules.proofs.Evicting.{Level, Arrival, level-turned, evicted-level, level-after}
+use Rattle.rules.proofs.Evicting.{Level, level-turned, evicted-level, level-after}
 use Rattle.answers.specs.declared.Request as code
 use Rattle.answers.specs.declared.Arrived.the-variants as tells
 use Rattle.history.specs.Plain.{Call, carry, run, replay, ask, layOut, Lent, lent, arrived, State, state, short, carriedBy, plainNext}
 use Rattle.history.specs.Words.{reply, tableAfter, Slice, stateOf, fresh, carriedIn, pictureStep, pictureNext, pictureAfter}
+use Rattle.history.specs.Sharing.{waiting, OnlyArrivals}
 use Rattle.history.proofs.Call.{comes}
 use Rattle.history.proofs.History as history-after
 use Rattle.history.proofs.History.{left, the-length, the-state, the-right, next-reply}
 use Rattle.history.proofs.Run.{after-append}
-use Rattle.history.proofs.Sharing.{waiting, Gone, chosen-evicted, outcome-evicted, now-fair, place, place-fair}
-
--- a call that carries out nothing but arrivals, if anything; a lay-out clears the table
-abbrev pub OnlyArrivals : Call → Type 0
-OnlyArrivals (carry c) = All Arrival (carriedBy (carry c))
-OnlyArrivals (run day bytes budget) = All Arrival (carriedBy (run day bytes budget))
-OnlyArrivals (replay bytes first) = All Arrival (carriedBy (replay bytes first))
-OnlyArrivals (ask x) = Unit {0}
-OnlyArrivals (layOut q) = ⊥
+use Rattle.history.proofs.Sharing.{Gone, chosen-evicted, outcome-evicted, now-fair, place, place-fair}
 
 -- being turned away is no eviction
 turned-only : {c : Choice} {x : Request} → c ≡ history.turned → c ≡ history.evicted x → ⊥

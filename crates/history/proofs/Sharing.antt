@@ -2,7 +2,7 @@
 use mathlib.Core.Bool.{Bool, true, false, cond}
 use mathlib.Core.List.{List, _∷_, _++_}
 use mathlib.Core.Path.{_≡_, refl, sym, ap, _∙_, subst}
-use Prim.Native.Nat.{ℕ, _+_, _*_, _≤_, _<_, min}
+use Prim.Native.Nat.{ℕ, _+_, _*_, _≤_, min}
 use native.Mathlib.Omega.{arith}
 use lib.ListN.{length, take}
 use Rattle.rules.specs.History as history
@@ -20,6 +20,7 @@ use Rattle.answers.specs.declared.Refusal.{Refusal}
 use Rattle.answers.specs.declared.Arrived.the-variants as tells
 use Rattle.history.specs.Plain.{Call, carry, Lent, lent, arrived, State, state, short, carriedBy}
 use Rattle.history.specs.Words.{reply, tableAfter}
+use Rattle.history.specs.Sharing.{waiting, Under}
 use Rattle.history.proofs.Unaltered.{turned-away}
 use Rattle.history.proofs.History as history-after
 use Rattle.history.proofs.History.{left, the-state, the-right, next-reply}
@@ -53,14 +54,6 @@ pub outcome-evicted : (c : Choice) (r : Request) → ofChoice c ≡ commands.evi
 outcome-evicted history.joined r e = let z : _≡_ {A = ℕ} 0 1 = cc in absurd (omega arith)
 outcome-evicted (history.evicted x) r e = let same : x ≡ r = cc in ap history.evicted same
 outcome-evicted history.turned r e = let z : _≡_ {A = ℕ} 0 1 = cc in absurd (omega arith)
-
--- n requests of each client that waits in s come to less than its window
-abbrev pub Under : ℕ → State → Type 0
-Under n s = n * length (s .waiting .order) < s .limits .places
-
--- client i's waiting requests there
-abbrev pub waiting : ℕ → State → ℕ
-waiting i s = count i (s .waiting .window)
 
 -- where its requests and one more are under, it is not turned away; where its requests are, none of them is evicted
 module _ (s : State) (fair : Fair (s .waiting)) (i : ℕ) where

@@ -1,7 +1,7 @@
 -- What W-203 is for: an arrival that evicts leaves its client with no more requests than the evicted client still has, which therefore stays;
 -- and, while only arrivals come, the evicted client is turned away whenever it arrives: nobody pushes out in turn.
 use mathlib.Core.Bool.{Bool, true, false, cond, _&&_}
-use mathlib.Core.List.{List, [], _∷_, _++_}
+use mathlib.Core.List.{List, [], _∷_}
 use mathlib.Core.Path.{_≡_, refl, sym, ap, _∙_, subst}
 use Prim.Native.Nat.{ℕ, suc, _+_, _≤_}
 use native.Mathlib.Decide.{ℕ-discrete}
@@ -13,7 +13,7 @@ use borrow.Author.Tests.{eq-eqb, ne-eqb, eqb-false, leb-true, le-leb}
 use Rattle.rules.specs.Rows.{All}
 use Rattle.rules.specs.History.{Request, Waiting, Limits, turned, evicted, Choice, count, newest, withoutNewest, heaviestClient, largestCount, full, turnedAway, choice, settle, arrive}
 use Rattle.rules.specs.Picture.{Picture, plain, limitsOf}
-use Rattle.rules.specs.Commands.{Command, arriving, sliding, serving, next}
+use Rattle.rules.specs.Commands.{Command, arriving, sliding, serving, Arrival, next}
 use Rattle.rules.specs.Run.{after}
 use Rattle.rules.specs.Sound.{Right}
 use Rattle.rules.proofs.Put.{Put, here, there, put-last, put-length}
@@ -140,7 +140,7 @@ module _ (L : Limits) (s : Waiting) (fair : Fair s) (r x : Request) (e : choice 
   level-kept j (f, l) =
       elim (ℕ-discrete (x .id) j) [
         | yes z ↦ subst (λ (i : ℕ). Level i L (arrive L s r)) z evicted-level
-        | no n ↦ 
+        | no n ↦
             let a = count-put left j in
             let b = count-put joined j in
             (still-full, omega (arith, none-larger (heaviestClient (arrive L s r)), l, rw (ne-eqb (x .id) j n) at a, b))
@@ -154,13 +154,7 @@ level-arrive j L s fair r l = go (turnedAway true (count (r .id) (s .window)) (l
     go true a = subst (λ (c : Choice). Level j L (settle c s r)) (sym (choice-turned L s (r .id) (l .0) a)) l
     go false a = level-kept L s fair r _ (choice-evicted L s (r .id) (l .0) a) j l
 
--- commands that are all arrivals
-abbrev pub Arrival : Command → Type 0
-Arrival (arriving r) = Unit {0}
-Arrival (sliding r) = ⊥
-Arrival serving = ⊥
-
--- after them a client is still to be turned away; s is who waits in P
+-- after commands that are all arrivals a client is still to be turned away; s is who waits in P
 pub level-after : (j : ℕ) (P : Picture) → Right P → {L : Limits} {s : Waiting} → limitsOf P ≡ L → plain P ≡ s → (cs : List Command) → All Arrival cs → Level j L s → Level j L (after L s cs)
 level-after j P v limits waits [] a l = l
 level-after j P v {L} {s} limits waits (arriving r ∷ cs) a l =

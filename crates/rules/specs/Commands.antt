@@ -10,6 +10,12 @@ pub data Command : Type 0 where
   sliding : Request → Command
   serving : Command
 
+-- a command is an arrival
+abbrev pub Arrival : Command → Type 0
+Arrival (arriving r) = Unit {0}
+Arrival (sliding r) = ⊥
+Arrival serving = ⊥
+
 -- what a command comes to; a case names the request that left, if one did
 pub data Outcome : Type 0 where
   joined : Outcome

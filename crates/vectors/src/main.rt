@@ -7,6 +7,9 @@ use table::LinkedTable;
 // Room for tables of 16 places.
 const WORDS: usize = LinkedTable::HEADER_WORDS + LinkedTable::PLACE_WORDS * 16;
 
+// Room for the longest file.
+const TEXT: usize = 131_072;
+
 // The words of a table of q places.
 fn words(t: &[u32], q: usize) {
     if q <= LinkedTable::LARGEST {
@@ -75,7 +78,7 @@ fn lines(s: &[u8], t: &mut [u32]) {
 }
 
 fn file(path: &[u8]) {
-    let mut text = io::large_buffer();
+    let mut text = [0u8; TEXT];
     let mut t = [0u32; WORDS];
     let n = report::load(path, &mut text);
     lines(&text[..n], &mut t);
