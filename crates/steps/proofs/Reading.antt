@@ -10,9 +10,10 @@ use borrow.Author.Tests.{eq-eqb}
 use Rattle.table.specs.Kind as kind
 use Rattle.table.specs.Regions.{Regions, regions, itemWord, clientWord}
 use Rattle.rules.specs.Rows.{lastOr, In}
+use Rattle.rules.specs.History as history
 use Rattle.rules.specs.History.{full, largestCount}
 use Rattle.rules.specs.Picture.{Item, Picture, item, itemRow, itemRows, clientRows, countOf, requestOf, limitsOf, plain}
-use Rattle.rules.specs.Steps.{newestItem, frontItem, leave}
+use Rattle.rules.specs.Steps.{newestItem, frontItem, leave, served}
 use Rattle.rules.specs.Draw.{draw}
 use Rattle.rules.specs.Sound.{picture}
 use Rattle.rules.specs.Ready.{Ready}
@@ -23,10 +24,12 @@ use Rattle.rules.proofs.Leaving.{heaviest-is, heaviest-count}
 use Rattle.rules.proofs.Leaving as leaving
 use Rattle.rules.proofs.Ready.{ready-right, ready-ordered, ready-queued}
 use Rattle.window.proofs.Read.{newest-is, front-is}
-use Rattle.answers.specs.Engine.{asStruct}
+use Rattle.answers.specs.Engine.{asStruct, asLeft}
+use Rattle.answers.specs.declared.Left.the-variants as lefts
 use Rattle.answers.specs.declared.Request.{Request}
 use Rattle.questions.proofs.Kept.{client-low}
 use Rattle.steps.specs.Items.{itemIn}
+use Rattle.steps.proofs.Choices.{serve-some, serve-front}
 use Rattle.steps.proofs.Leaving.{item-in, item-low, owner-is, owner-there, counted}
 
 -- an item row, and the item that waits in it
@@ -111,3 +114,13 @@ module _ {q : ℕ} {t : List ℕ} (y : Ready q t) where
 
         pub owner-count : {n : ℕ} → n ≡ clientWord t q c kind.count → n ≡ countOf (P .window) c
         owner-count m = m ∙ counted y r (front-waits .there) c front-owner
+
+-- the front item leaves: that is a serve
+pub front-left : {q : ℕ} {t : List ℕ} (y : Ready q t) {n r : ℕ} → n ≡ getD t kind.requestsAt 0 → (n ≡ 0 → ⊥) → r ≡ getD t kind.frontAt 0 → {x : Request} {u : List ℕ}
+    → x ≡ asStruct (requestOf (picture t .clients) (itemIn r (picture t .window))) → u ≡ draw (leave (picture t) (itemIn r (picture t .window)))
+    → (lefts.One x ≡ asLeft (history.served (plain (picture t)))) × (u ≡ draw (served (picture t)))
+front-left y e m k a d =
+    let is = requests-are y e in
+    let left = waits-left (front-waits y (serve-some y is m) k) a d in
+    let (told, drawn) = serve-front y is m (left .1) in
+    (ap lefts.One (left .0) ∙ told, drawn)

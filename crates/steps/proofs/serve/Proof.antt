@@ -1,13 +1,12 @@
 -- By whether anybody waits; the front item leaves.
-use mathlib.Core.Path.{sym, ap, _∙_, subst}
+use mathlib.Core.Path.{sym, _∙_, subst}
 use Prim.Native.Nat.{_≤_}
 use borrow.Author.Needs.{needs}
 use lib.Dec.{lit<}
 use Rattle.rules.proofs.Ready.{ready-sized}
-use Rattle.answers.specs.declared.Left.the-variants as lefts
-use Rattle.steps.proofs.Choices.{serve-idle, serve-some, serve-front}
+use Rattle.steps.proofs.Choices.{serve-idle, serve-some}
 use Rattle.steps.proofs.Leaving.{several}
-use Rattle.steps.proofs.Reading.{requests-are, waits-left, front-waits, front-low, front-owner, owner-low, owner-count}
+use Rattle.steps.proofs.Reading.{requests-are, front-waits, front-low, front-owner, owner-low, owner-count, front-left}
 use Rattle.steps.proofs.serve.Statement.{statement}
 use Rattle.steps.proofs.serve.Tie as tie
 
@@ -64,9 +63,7 @@ returns-2 c =
     let i = f .before .before in
     let h = i .before in
     let p = h .before .before .before .pre in
-    let left = waits-left (front-waits (p .0) (serve-some (p .0) (requests-are (p .0) (h .header .ensures)) (i .if1 .left)) (f .header2 .ensures)) (l .leave-only .ensures .0) (l .leave-only .ensures .1) in
-    let r = serve-front (p .0) (requests-are (p .0) (h .header .ensures)) (i .if1 .left) (left .1) in
-    (ap lefts.One (left .0) ∙ r .0, r .1)
+    front-left (p .0) (h .header .ensures) (i .if1 .left) (f .header2 .ensures) (l .leave-only .ensures .0) (l .leave-only .ensures .1)
 
 leave-one-requires : tie.Need-leave-one-requires
 leave-one-requires c κs =
@@ -91,9 +88,7 @@ returns-3 c =
     let i = f .before .before in
     let h = i .before in
     let p = h .before .before .before .pre in
-    let left = waits-left (front-waits (p .0) (serve-some (p .0) (requests-are (p .0) (h .header .ensures)) (i .if1 .left)) (f .header2 .ensures)) (l .leave-one .ensures .0) (l .leave-one .ensures .1) in
-    let r = serve-front (p .0) (requests-are (p .0) (h .header .ensures)) (i .if1 .left) (left .1) in
-    (ap lefts.One (left .0) ∙ r .0, r .1)
+    front-left (p .0) (h .header .ensures) (i .if1 .left) (f .header2 .ensures) (l .leave-one .ensures .0) (l .leave-one .ensures .1)
 
 pub serve-spec : {M : Type 1} → statement M
 serve-spec = tie.close (tie.spec header-requires (λ c. search needs) returns header-requires-2 item-requires client-requires leave-only-requires (λ c. search needs) returns-2 leave-one-requires (λ c. search needs) returns-3)
