@@ -30,7 +30,7 @@ whiteboard = (
       numbered 1000 16016 0 refl,
       (
         numbered 1000 16015 2 refl,
-        ((refl, refl), ((refl, refl), ((refl, refl), tt))),
+        ((refl, refl), ((refl, refl), ((refl, refl), ((refl, refl), tt)))),
       ),
     ),
   ),

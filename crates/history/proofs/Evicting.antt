@@ -1,9 +1,8 @@
--- W-203, over any history of calls: an arrival that evicts leaves its client with no more requests than the evicted client still has, which stays; and while only arrivals come, that client evicts nobody in turn. A single arrive by its reply, and one that a run or a replay carries out by what it comes to at its place.
+-- W-203, over any history of calls: an arrival that evicts leaves its client with no more requests than the evicted client still has, which stays; and while only arrivals come, that client is turned away in its turn. A single arrive by its reply, and one that a run or a replay carries out by what it comes to at its place.
 use mathlib.Core.Bool.{Bool, true, false, cond}
 use mathlib.Core.List.{List, [], _∷_, _++_}
 use mathlib.Core.Path.{_≡_, refl, sym, ap, _∙_, subst}
 use Prim.Native.Nat.{ℕ, _≤_, min}
-use native.Mathlib.Omega.{arith}
 use lib.ListN.{length, take}
 use Rattle.rules.specs.Rows.{All}
 use Rattle.rules.specs.History as history
@@ -19,9 +18,11 @@ use Rattle.rules.proofs.Run.{all-step}
 use Rattle.rules.proofs.Run.{after-append as commands-append}
 use Rattle.rules.proofs.Evicting as evicting
 use Rattle.rules.proofs.Evicting.{Level, level-turned, evicted-level, level-after}
+use Rattle.answers.specs.Engine.{asChoice}
+use Rattle.answers.specs.Offered.{arrivedOf}
 use Rattle.answers.specs.declared.Request as code
 use Rattle.answers.specs.declared.Arrived.the-variants as tells
-use Rattle.history.specs.Plain.{Call, carry, run, replay, ask, layOut, Lent, lent, arrived, State, state, short, carriedBy, plainNext}
+use Rattle.history.specs.Plain.{Call, carry, run, replay, ask, layOut, Lent, lent, arrived, says, State, state, short, saidOf, carriedBy, plainNext}
 use Rattle.history.specs.Words.{reply, tableAfter, Slice, stateOf, fresh, carriedIn, pictureStep, pictureNext, pictureAfter}
 use Rattle.history.specs.Sharing.{waiting, OnlyArrivals}
 use Rattle.history.proofs.Call.{comes}
@@ -29,10 +30,6 @@ use Rattle.history.proofs.History as history-after
 use Rattle.history.proofs.History.{left, the-length, the-state, the-right, next-reply}
 use Rattle.history.proofs.Run.{after-append}
 use Rattle.history.proofs.Sharing.{Gone, chosen-evicted, outcome-evicted, now-fair, place, place-fair}
-
--- being turned away is no eviction
-turned-only : {c : Choice} {x : Request} → c ≡ history.turned → c ≡ history.evicted x → ⊥
-turned-only t e = let z : _≡_ {A = ℕ} 0 1 = cc in absurd (omega arith)
 
 -- client j is to be turned away
 abbrev LevelOf : ℕ → State → Type 0
@@ -135,10 +132,11 @@ module _ (q : ℕ) (w : List ℕ) (laid : layOutNumber q (length w) ≡ 0) (call
         let is : stateOf (pictureAfter (pictureNext S first) later) ≡ later-on later = ap stateOf (sym (after-append calls (first ∷ later) (fresh q w))) ∙ the-state q w laid (calls ++ first ∷ later) in
         subst (LevelOf (x .id)) is (level-calls (x .id) later (pictureNext S first) (k .right) a (subst (LevelOf (x .id)) (sym goes) then-level))
 
-    -- while these carry out nothing but arrivals, the evicted client evicts nobody
-    pub never-in-turn : (later : List Lent) → All (λ l. OnlyArrivals (l .call)) later → (m ticket : ℕ) (z : code.Request)
-        → reply (carry (arriving (request (x .id) ticket))) (take m (tableAfter (calls ++ first ∷ later) (laidOut q w))) ≡ arrived (tells.Evicted z) → ⊥
-    never-in-turn later a m ticket z e =
+    -- while these carry out nothing but arrivals, the evicted client is turned away when it arrives; with too few words it is refused as ever
+    pub never-in-turn : (later : List Lent) → All (λ l. OnlyArrivals (l .call)) later → (m ticket : ℕ)
+        → reply (carry (arriving (request (x .id) ticket))) (take m (tableAfter (calls ++ first ∷ later) (laidOut q w)))
+        ≡ saidOf (min m (length w)) (later-on later) (says (λ x. arrived (tells.Refused x)) (λ L s. arrived tells.Turned))
+    never-in-turn later a m ticket =
         let s : State = later-on later in
-        let g = chosen-evicted (short (min m (length w)) s) _ _ z (sym (next-reply q w laid (calls ++ first ∷ later) (lent m (carry (arriving (request (x .id) ticket))))) ∙ e) in
-        turned-only (level-turned (x .id) (s .limits) (s .waiting) (later-level later a)) (g .is)
+        next-reply q w laid (calls ++ first ∷ later) (lent m (carry (arriving (request (x .id) ticket))))
+        ∙ ap (λ (c : Choice). saidOf (min m (length w)) s (says (λ x. arrived (tells.Refused x)) (λ L s. arrived (arrivedOf (asChoice c))))) (level-turned (x .id) (s .limits) (s .waiting) (later-level later a))
