@@ -1,4 +1,4 @@
--- Document 01's session in whole, the most commands, and the refusals.
+-- Document 01's session in whole, a run whose totals all differ, the most commands, and the refusals.
 use mathlib.Core.List.{List, [], _∷_, _++_}
 use mathlib.Core.Path.{_≡_, refl}
 use Prim.Native.Nat.{ℕ, zero, suc, _<_}
@@ -22,13 +22,23 @@ whole : printed session ≡ bytes "stop 0 done 9 joined 6 evicted 1 passed 1 ser
 unfolding turnedAway stop carried decimal filled clientLines printed command session
 whole = refl
 
--- as many serves as there is room for
-serves : ℕ → List ℕ
-serves zero = []
-serves (suc n) = command 3 0 0 ++ serves n
+-- a command so many times
+times : ℕ → List ℕ → List ℕ
+times zero c = []
+times (suc n) c = c ++ times n c
 
-most : printed (4 ∷ 0 ∷ serves 1000) ≡ bytes "stop 0 done 1000 joined 0 evicted 0 passed 0 served 0 turned 0 idle 1000\n"
-unfolding stop carried decimal filled clientLines printed command serves
+-- six totals that all differ
+varied : List ℕ
+varied =
+    2 ∷ 0 ∷ times 5 (command 3 0 0) ++ times 2 (command 1 1 1) ++ command 1 2 2 ++ times 4 (command 1 3 3) ++ times 2 (command 2 3 4) ++ times 2 (command 3 0 0) ++ command 1 1 5 ++ command 3 0 0 ++ command 1 7 6
+
+apart : printed varied ≡ bytes "stop 0 done 19 joined 7 evicted 1 passed 2 served 3 turned 4 idle 5\n7 1\n"
+unfolding turnedAway stop carried decimal filled clientLines printed command times varied
+apart = refl
+
+-- as many serves as there is room for
+most : printed (4 ∷ 0 ∷ times 1000 (command 3 0 0)) ≡ bytes "stop 0 done 1000 joined 0 evicted 0 passed 0 served 0 turned 0 idle 1000\n"
+unfolding stop carried decimal filled clientLines printed command times
 most = refl
 
 -- the refusals: any over-long input, no Q, half of it, and Q of 0 and of 257
