@@ -51,7 +51,7 @@ module _ (P : Picture) where
 pub away : {n m k l : ℕ} {b z : Bool} → b ≡ turnedAway true n m → n ≡ k → m ≡ l → b ≡ z → turnedAway true k l ≡ z
 away is own heavy e = sym (ap₂ (turnedAway true) own heavy) ∙ sym is ∙ e
 
--- who is not turned away has two fewer than the heaviest at least
+-- where the arriving client is not turned away, the heaviest has two requests at least
 pub two-wait : (n m : ℕ) {b : Bool} → b ≡ turnedAway true n m → b ≡ false → 2 ≤ m
 two-wait n m is e = omega (arith, stays-light n m (sym is ∙ e))
 
