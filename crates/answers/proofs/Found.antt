@@ -1,23 +1,25 @@
--- What a call finds in lent words, told from what it opens.
+-- What a call finds in lent words, told from what it opens, and back.
+use mathlib.Core.Bool.{Bool, true, false, cond}
 use mathlib.Core.List.{List}
 use mathlib.Core.Path.{_≡_, refl, sym, subst}
-use Prim.Native.Nat.{ℕ, zero, suc}
-use native.Mathlib.Omega.{arith}
+use Prim.Native.Nat.{ℕ}
 use lib.ListN.{getD}
 use Rattle.table.specs.Kind as kind
-use Rattle.rules.specs.Verdict.{verdict}
+use Rattle.rules.specs.Verdict.{accepts}
 use Rattle.answers.specs.declared.Opened.{Opened}
 use Rattle.answers.specs.declared.Opened.the-variants as opened
-use Rattle.answers.specs.Offered.{refusal, openedAs, openedOn}
+use Rattle.answers.specs.declared.Refusal.{Refusal}
+use Rattle.answers.specs.Offered.{refusalOn, openedOn}
 
--- which of the two it is, where the verdict is n and the words' Q is q
-abbrev Found : ℕ → ℕ → Opened → Type 0
-Found n q (opened.Table p) = (n ≡ 0) × (p ≡ q)
-Found n q (opened.Refused x) = (n ≡ 0 → ⊥) × (x ≡ refusal n)
+-- which of the two it is, where the words' Q is q and they are refused for x, if they are
+abbrev Found : Bool → ℕ → Refusal → Opened → Type 0
+Found b q x (opened.Table p) = (b ≡ true) × (p ≡ q)
+Found b q x (opened.Refused y) = (b ≡ false) × (y ≡ x)
 
-found-as : (n q : ℕ) → Found n q (openedAs n q)
-found-as zero q = (refl, refl)
-found-as (suc n) q = (λ e. omega (arith, e), refl)
+found-as : (b : Bool) (q : ℕ) (x : Refusal) → Found b q x (cond b (opened.Table q) (opened.Refused x))
+found-as true q x = (refl, refl)
+found-as false q x = (refl, refl)
 
-pub found : (t : List ℕ) (o : Opened) → o ≡ openedOn t → Found (verdict t) (getD t kind.placesAt 0) o
-found t o e = subst (Found (verdict t) (getD t kind.placesAt 0)) (sym e) (found-as (verdict t) (getD t kind.placesAt 0))
+pub found : (t : List ℕ) (o : Opened) → o ≡ openedOn t → Found (accepts t) (getD t kind.placesAt 0) (refusalOn t) o
+found t o e =
+    subst (Found (accepts t) (getD t kind.placesAt 0) (refusalOn t)) (sym e) (found-as (accepts t) (getD t kind.placesAt 0) (refusalOn t))

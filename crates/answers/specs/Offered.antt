@@ -1,10 +1,11 @@
 -- An engine's answer as the call offers it, and the refusals.
+use mathlib.Core.Bool.{cond}
 use mathlib.Core.List.{List}
-use Prim.Native.Nat.{ℕ, zero, suc}
+use Prim.Native.Nat.{ℕ}
 use lib.ListN.{getD}
 use Rattle.table.specs.Kind as kind
 use Rattle.rules.specs.Numbers as number
-use Rattle.rules.specs.Verdict.{verdict}
+use Rattle.rules.specs.Verdict.{verdict, accepts}
 use Rattle.answers.specs.declared.Refusal.{Refusal}
 use Rattle.answers.specs.declared.Opened.{Opened}
 use Rattle.answers.specs.declared.Opened.the-variants as opened
@@ -31,14 +32,13 @@ use Rattle.answers.specs.declared.Told.the-variants as told
 abbrev pub refusal : ℕ → Refusal
 refusal n = record { number = n }
 
--- what a call finds where the verdict is n, in words whose Q is q: a table, or why it is refused
-abbrev pub openedAs : ℕ → ℕ → Opened
-openedAs zero q = opened.Table q
-openedAs (suc n) q = opened.Refused (refusal (suc n))
+-- why words are refused
+abbrev pub refusalOn : List ℕ → Refusal
+refusalOn t = refusal (verdict t)
 
--- what every call but lay-out finds in the words that it is lent
+-- what every call but lay-out finds in the words that it is lent: a table of their Q, or why it is refused
 abbrev pub openedOn : List ℕ → Opened
-openedOn t = openedAs (verdict t) (getD t kind.placesAt 0)
+openedOn t = cond (accepts t) (opened.Table (getD t kind.placesAt 0)) (opened.Refused (refusalOn t))
 
 -- being turned away is a reply
 abbrev pub arrivedOf : Choice → Arrived

@@ -20,16 +20,15 @@ use Rattle.rules.specs.Run.{nextAll}
 use Rattle.rules.specs.Draw.{draw}
 use Rattle.rules.specs.Sound.{picture}
 use Rattle.rules.specs.Ready.{Ready}
-use Rattle.rules.specs.Verdict.{room, verdict, afterwards, layOutNumber}
+use Rattle.rules.specs.Verdict.{room, accepts, afterwards, layOutNumber}
 use Rattle.rules.proofs.Ready.{ready-right, ready-sized, drawn-ready, drawn-picture}
 use Rattle.rules.proofs.Run.{next-step, all-step}
+use Rattle.rules.proofs.Verdict.{accepted, drawn-long}
 use Rattle.layout.proofs.After.{laid-is}
 use Rattle.layout.proofs.After as after-lay-out
 use Rattle.limiter.specs.Lent.{lent}
-use Rattle.limiter.proofs.Lent.{accepted}
 use Rattle.history.specs.Plain.{Call, carry, run, replay, ask, layOut, Lent, carriedBy}
 use Rattle.history.specs.Words.{words, sliceAfter, mostAltered}
-use Rattle.history.proofs.Drawn.{drawn-long}
 use Rattle.history.proofs.Call.{command-words, lay-out-stays}
 use Rattle.steps.proofs.Few.{unaltered, arrive-few, slide-few, serve-few}
 
@@ -82,11 +81,11 @@ few-front {k} n t u (l, h) =
 -- commands on lent words, which alter at most k words of a ready table
 few-after : (k : ℕ) (cs : List Command) → ((q : ℕ) (t : List ℕ) → Ready q t → altered t (draw (nextAll (picture t) cs)) ≤ k) → (t : List ℕ) → Few k t (afterwards (λ P. nextAll P cs) t)
 unfolding afterwards
-few-after k cs few t = go (eqb (verdict t) 0) refl
+few-after k cs few t = go (accepts t) refl
   where
-    go : (b : Bool) → eqb (verdict t) 0 ≡ b → Few k t (cond b (draw (nextAll (lent t) cs) ++ drop (room t) t) t)
+    go : (b : Bool) → accepts t ≡ b → Few k t (cond b (draw (nextAll (lent t) cs) ++ drop (room t) t) t)
     go true e =
-        let y = accepted t (eqb-true (verdict t) 0 e) .ready in
+        let y = accepted t e .ready in
         let s = all-step (lent t) (ready-right y) cs .limits in
         few-front (room t) t (draw (nextAll (lent t) cs))
         (drawn-long (nextAll (lent t) cs) ∙ ap (λ (L : Limits). kind.size (L .places)) s ∙ ap kind.size (y .places) ∙ sym (ready-sized y .long), few _ _ y)

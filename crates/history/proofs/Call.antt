@@ -19,35 +19,36 @@ use Rattle.rules.specs.Commands.{Command, arriving, sliding, serving}
 use Rattle.rules.specs.Run.{nextAll}
 use Rattle.rules.specs.Draw.{draw}
 use Rattle.rules.specs.Sound.{Right}
-use Rattle.rules.specs.Verdict.{verdict, afterwards, layOutNumber, laidOut}
+use Rattle.rules.specs.Verdict.{verdict, accepts, afterwards, layOutNumber, laidOut}
 use Rattle.rules.proofs.Choose.{side-by-side}
 use Rattle.rules.proofs.Run.{all-step}
 use Rattle.rules.proofs.Empty.{empty-right}
+use Rattle.rules.proofs.Verdict.{drawn-long, long, drawn-accepted, drawn-found, drawn-after, short-refused, refused-by}
 use Rattle.layout.proofs.After.{accepted, laid-is}
 use Rattle.limiter.specs.Lent.{waitingIn, limitsIn, orRefused}
 use Rattle.history.specs.Plain.{Question, heaviest, lightest, count, oldest, newest, Call, carry, run, replay, ask, layOut, Lent, lent, Reply, arrived, slid, served, ran, replayed, listed, counted, told, laid, Says, commandSays, runSays, replaySays, questionSays, State, state, short, saidOf, carriedOn, carriedBy, plainAnswer, plainNext}
 use Rattle.history.specs.Words.{reply, words, sliceAfter, Slice, drawnOut, stateOf, carriedIn, pictureNext}
-use Rattle.history.proofs.Drawn.{drawn-long, long, drawn-accepted, drawn-found, drawn-after, short-refused, refused-stay, all-stay}
+use Rattle.history.proofs.Drawn.{refused-stay, all-stay}
 
 -- on any lent words a call says what it has to say: to a refusal of the table, or of what waits in it
 abbrev saidIn : Says → List ℕ → Reply
 saidIn k t = orRefused (k .refused) t (k .answer (limitsIn t) (waitingIn t))
 
 command-said : (c : Command) (t : List ℕ) → reply (carry c) t ≡ saidIn (commandSays c) t
-command-said (arriving r) t = side-by-side arrived (eqb (verdict t) 0) refl refl
-command-said (sliding r) t = side-by-side slid (eqb (verdict t) 0) refl refl
-command-said serving t = side-by-side served (eqb (verdict t) 0) refl refl
+command-said (arriving r) t = side-by-side arrived (accepts t) refl refl
+command-said (sliding r) t = side-by-side slid (accepts t) refl refl
+command-said serving t = side-by-side served (accepts t) refl refl
 
 two-by-two : {A B C : Type 0} (f : A → B → C) (b : Bool) {x y : A} {u v : B} {p q : C} → f x u ≡ p → f y v ≡ q → f (cond b x y) (cond b u v) ≡ cond b p q
 two-by-two f true e g = e
 two-by-two f false e g = g
 
 question-said : (x : Question) (t : List ℕ) → reply (ask x) t ≡ saidIn (questionSays x) t
-question-said (heaviest k out) t = two-by-two listed (eqb (verdict t) 0) refl refl
-question-said (lightest k out) t = two-by-two listed (eqb (verdict t) 0) refl refl
-question-said (count id) t = side-by-side counted (eqb (verdict t) 0) refl refl
-question-said (oldest id) t = side-by-side told (eqb (verdict t) 0) refl refl
-question-said (newest id) t = side-by-side told (eqb (verdict t) 0) refl refl
+question-said (heaviest k out) t = two-by-two listed (accepts t) refl refl
+question-said (lightest k out) t = two-by-two listed (accepts t) refl refl
+question-said (count id) t = side-by-side counted (accepts t) refl refl
+question-said (oldest id) t = side-by-side told (accepts t) refl refl
+question-said (newest id) t = side-by-side told (accepts t) refl refl
 
 -- and a command leaves what the step on the picture leaves
 pub command-words : (c : Command) (t : List ℕ) → words (carry c) t ≡ afterwards (λ P. nextAll P (c ∷ [])) t
@@ -116,9 +117,9 @@ module _ (S : Slice) (v : Right (S .picture)) (w : ℕ) (c : Call) (k : Says) (p
       let beyond : drop w t ≡ drop m (S .beyond) = ap (λ (k : ℕ). drop k t) is ∙ b in
       let step = all-step P v cs in
       let u : List ℕ = draw P ++ take m (S .beyond) in
-      let zero : verdict u ≡ 0 = drawn-accepted P v (take m (S .beyond)) in
+      let yes : accepts u ≡ true = drawn-accepted P v (take m (S .beyond)) in
       record {
-        answers = ap (reply c) front ∙ p .says u ∙ rw (e, zero, drawn-found P v (take m (S .beyond)));
+        answers = ap (reply c) front ∙ p .says u ∙ rw (e, yes, drawn-found P v (take m (S .beyond)));
         leaves = rw (e, front, beyond, p .leaves u, drawn-after P v (take m (S .beyond)) (λ P. nextAll P cs))
             (append-assoc (draw (nextAll P cs)) (take m (S .beyond)) (drop m (S .beyond)) ∙ ap (λ (r : List ℕ). draw (nextAll P cs) ++ r) (take-append-drop m (S .beyond)));
         long = rw e (same-long (nextAll P cs) P (S .beyond) (step .limits));
@@ -130,9 +131,10 @@ module _ (S : Slice) (v : Right (S .picture)) (w : ℕ) (c : Call) (k : Says) (p
   too-short e =
       let h : w < kind.size (P .places) = fewer-short w (length t) (kind.size (P .places)) (long P v (S .beyond)) (ltb-true n (kind.size (P .places)) e) in
       let two : verdict (take w t) ≡ number.tooShort = short-refused P v (S .beyond) w h in
+      let no : accepts (take w t) ≡ false = refused-by (take w t) two in
       record {
-        answers = p .says (take w t) ∙ rw (e, two);
-        leaves = rw (e, p .leaves (take w t), refused-stay (λ P. nextAll P cs) (take w t) (λ z. omega (arith, two, z))) (take-append-drop w t);
+        answers = p .says (take w t) ∙ rw (e, no, two);
+        leaves = rw (e, p .leaves (take w t), refused-stay (λ P. nextAll P cs) (take w t) no) (take-append-drop w t);
         long = rw e refl;
         right = rw e v;
         goes = rw e refl;
@@ -197,8 +199,8 @@ comes S v l = go (l .call) (l .words)
   where
     go : (c : Call) (w : ℕ) → Comes S (lent w c)
     go (carry c) w = carries S v w (carry c) (commandSays c) (record { says = command-said c; leaves = command-words c })
-    go (run day bytes budget) w = carries S v w (run day bytes budget) (runSays bytes budget) (record { says = λ t. side-by-side ran (eqb (verdict t) 0) refl refl; leaves = λ t. refl })
-    go (replay bytes first) w = carries S v w (replay bytes first) (replaySays bytes first) (record { says = λ t. side-by-side replayed (eqb (verdict t) 0) refl refl; leaves = λ t. refl })
+    go (run day bytes budget) w = carries S v w (run day bytes budget) (runSays bytes budget) (record { says = λ t. side-by-side ran (accepts t) refl refl; leaves = λ t. refl })
+    go (replay bytes first) w = carries S v w (replay bytes first) (replaySays bytes first) (record { says = λ t. side-by-side replayed (accepts t) refl refl; leaves = λ t. refl })
     go (ask x) w =
         let k = carries S v w (ask x) (questionSays x) (record { says = question-said x; leaves = λ t. sym (all-stay (λ P. P) t refl) }) in
         record { answers = k .answers; leaves = take-append-drop w (drawnOut S); long = refl; right = v; goes = refl }

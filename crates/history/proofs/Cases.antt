@@ -10,7 +10,7 @@ use Rattle.rules.specs.History.{turnedAway}
 use Rattle.rules.specs.Steps.{join, leave, arrived, slid, served}
 use Rattle.rules.specs.Draw.{draw}
 use Rattle.rules.specs.Sound.{right, follow, picture, sound}
-use Rattle.rules.specs.Verdict.{verdict, afterwards, laidOut, layOutNumber}
+use Rattle.rules.specs.Verdict.{verdict, accepts, afterwards, laidOut, layOutNumber}
 use Rattle.rules.specs.Cases.{cases}
 use Rattle.history.specs.Plain.{layOut, laid}
 use Rattle.history.specs.Words.{reply}
@@ -21,7 +21,7 @@ numbered : (q n number : ℕ) → layOutNumber q n ≡ number → (t : List ℕ)
 numbered q n number e t l = ap (λ (m : ℕ). laid (layOutNumber q m)) l ∙ ap laid e
 
 pub whiteboard : All Right cases
-unfolding upto rows words spreadAt bucket turnedAway join leave arrived slid served draw right follow picture sound verdict afterwards laidOut
+unfolding upto rows words spreadAt bucket turnedAway join leave arrived slid served draw right follow picture sound verdict accepts afterwards laidOut
 whiteboard = (
   numbered 0 16016 1 refl,
   (

@@ -11,10 +11,10 @@ use Rattle.rules.specs.Draw.{draw}
 use Rattle.rules.specs.Sound.{Right}
 use Rattle.rules.specs.Verdict.{layOutNumber, laidOut}
 use Rattle.rules.proofs.Empty.{empty-right}
+use Rattle.rules.proofs.Verdict.{drawn-long}
 use Rattle.layout.proofs.After.{accepted, laid-is}
 use Rattle.history.specs.Plain.{Lent, Reply, State, start, plainAnswer, plainNext, plainReplies, plainAfter}
 use Rattle.history.specs.Words.{reply, replies, tableAfter, Slice, drawnOut, stateOf, fresh, pictureNext, pictureAfter}
-use Rattle.history.proofs.Drawn.{drawn-long}
 use Rattle.history.proofs.Call.{Comes, comes}
 
 -- what calls come to on a slice of n words, where the plain history is s

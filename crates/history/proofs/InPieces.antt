@@ -1,4 +1,5 @@
 -- A recording in two pieces, of which the first is of whole blocks. Where its blocks all pass, the replays of the two, one after the other, leave every word as one replay of all the bytes does, and their reports add up to its report; where one fails, the replay of the first piece is that of all the bytes. On any slice, and however many of its words are lent.
+use mathlib.Core.Bool.{false}
 use mathlib.Core.List.{List, _++_, append-nil}
 use mathlib.Core.Path.{_≡_, sym, ap, ap₂, _∙_}
 use Prim.Native.Nat.{ℕ, _+_, _*_, _≤_, min}
@@ -7,15 +8,15 @@ use native.Mathlib.Omega.{arith}
 use native.Mathlib.Nat.{min-le-left, min-eq-left}
 use lib.ListN.{length, take, drop, length-take, drop-of-length-le}
 use lib.Seq.{take-at, drop-at, take-all}
-use borrow.Author.Tests.{ne-eqb}
 use Rattle.rules.specs.History.{Waiting, Limits}
 use Rattle.rules.specs.Picture.{Picture, limitsOf, plain}
 use Rattle.rules.specs.Commands.{Command}
 use Rattle.rules.specs.Run.{after, outcomes, nextAll}
 use Rattle.rules.specs.Draw.{draw}
 use Rattle.rules.specs.Sound.{Right}
-use Rattle.rules.specs.Verdict.{verdict, afterwards}
+use Rattle.rules.specs.Verdict.{accepts, afterwards}
 use Rattle.rules.proofs.Run.{all-step, outcomes-append, nextAll-append}
+use Rattle.rules.proofs.Verdict.{drawn-accepted, drawn-found, drawn-after}
 use Rattle.answers.specs.declared.Report.{Report}
 use Rattle.answers.specs.declared.Replay.{Replay}
 use Rattle.answers.specs.declared.Replayed.{Replayed}
@@ -31,7 +32,7 @@ use Rattle.limiter.specs.Lent.{limitsIn, waitingIn, orRefused}
 use Rattle.limiter.specs.Runs.{replayAnswer, replayWords}
 use Rattle.history.specs.Plain.{Call, replay, lent}
 use Rattle.history.specs.Words.{words, sliceAfter}
-use Rattle.history.proofs.Drawn.{drawn-accepted, drawn-found, drawn-after, on-any, refused-stay}
+use Rattle.history.proofs.Drawn.{on-any, refused-stay}
 use Rattle.history.proofs.Bound.{words-long}
 
 -- what a replay reports
@@ -77,7 +78,7 @@ module _ (cs ds : List Command) where
           ∙ ap (λ (J : Picture). draw J ++ rest) (nextAll-append P cs ds)
           ∙ sym (ap (afterwards second) (drawn-after P v rest first) ∙ drawn-after (first P) (all-step P v cs .right) rest second)
 
-      refused : (t : List ℕ) → (verdict t ≡ 0 → ⊥) → afterwards all t ≡ afterwards second (afterwards first t)
+      refused : (t : List ℕ) → accepts t ≡ false → afterwards all t ≡ afterwards second (afterwards first t)
       refused t n = refused-stay all t n ∙ sym (ap (afterwards second) (refused-stay first t n) ∙ refused-stay second t n)
 
 drawn-answer : (P : Picture) → Right P → (rest : List ℕ) (first : ℕ) (s : List ℕ) → replayAnswer first s (draw P ++ rest) ≡ tells.Reported (replayFrom P first s)
@@ -123,8 +124,8 @@ module _ (first k : ℕ) (s u : List ℕ) (whole : length s ≡ kind.blockBytes 
             ∙ (λ i. tells.Reported (replayOf (step .limits i) (step .plain i) (first + k) u)) in
             drawn-answer P v rest first (s ++ u) ∙ ap tells.Reported (reported-twice (limitsOf P) (plain P)) ∙ sym (ap₂ bothAnswers (drawn-answer P v rest first s) second)
 
-        refused : (t : List ℕ) → (verdict t ≡ 0 → ⊥) → replayAnswer first (s ++ u) t ≡ bothAnswers (replayAnswer first s t) (replayAnswer (first + k) u (replayWords first s t))
-        refused t n = rw (ne-eqb (verdict t) 0 n)
+        refused : (t : List ℕ) → accepts t ≡ false → replayAnswer first (s ++ u) t ≡ bothAnswers (replayAnswer first s t) (replayAnswer (first + k) u (replayWords first s t))
+        refused t n = rw n
 
     pub pieces-report : (n : ℕ) (t : List ℕ)
         → replayAnswer first (s ++ u) (take n t) ≡ bothAnswers (replayAnswer first s (take n t)) (replayAnswer (first + k) u (take n (sliceAfter (lent n (replay s first)) t)))

@@ -11,6 +11,7 @@ use Rattle.rules.specs.History.{Limits}
 use Rattle.rules.specs.Commands.{Command, Outcome}
 use Rattle.rules.specs.Run.{outcomes}
 use Rattle.rules.specs.Verdict.{layOutNumber, laidOut}
+use Rattle.rules.proofs.Verdict.{long}
 use Rattle.answers.specs.declared.Replayed.the-variants as tells
 use Rattle.recording.specs.Replay as recording
 use Rattle.recording.specs.Replay.{pieces}
@@ -18,7 +19,6 @@ use Rattle.recording.proofs.Pieces.{Replays}
 use Rattle.run.specs.Runs.{totalled}
 use Rattle.history.specs.Plain.{replay, Lent, lent, Reply, replayed, State, singles}
 use Rattle.history.specs.Words.{reply, tableAfter}
-use Rattle.history.proofs.Drawn.{long}
 use Rattle.history.proofs.History.{left, history, the-length, the-limits, the-right, next-reply}
 use Rattle.history.proofs.Run.{replay-as-singles}
 

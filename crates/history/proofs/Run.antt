@@ -18,11 +18,11 @@ use Rattle.rules.specs.Draw.{draw}
 use Rattle.rules.specs.Sound.{Right}
 use Rattle.rules.specs.Verdict.{layOutNumber, laidOut}
 use Rattle.rules.proofs.Run.{next-step, all-step}
+use Rattle.rules.proofs.Verdict.{drawn-long}
 use Rattle.layout.proofs.After.{accepted}
 use Rattle.recording.specs.Replay as recording
 use Rattle.history.specs.Plain.{Call, carry, run, replay, Lent, lent, short, carriedBy, singles}
 use Rattle.history.specs.Words.{tableAfter, Slice, slice, drawnOut, stateOf, fresh, carriedIn, pictureStep, pictureNext, pictureAfter}
-use Rattle.history.proofs.Drawn.{drawn-long}
 use Rattle.history.proofs.Call.{Comes, comes}
 use Rattle.history.proofs.History.{left, fresh-long, fresh-right, the-table, the-right, same-picture}
 

@@ -31,9 +31,9 @@ use Rattle.rules.proofs.Settle.{Step}
 use Rattle.rules.proofs.Moves.{join-new, leave-frees, leave-last}
 use Rattle.rules.proofs.Leaving.{front-step}
 use Rattle.rules.proofs.Ready.{ready-right, ready-holds, ready-queued, ready-ordered, drawn-ready, drawn-picture}
+use Rattle.rules.proofs.Verdict.{drawn-long}
 use Rattle.history.specs.Plain.{Lent, State}
 use Rattle.history.specs.Words.{tableAfter}
-use Rattle.history.proofs.Drawn.{drawn-long}
 use Rattle.history.proofs.History.{left, history, the-table, the-state, the-right}
 use Rattle.steps.proofs.Choices.{arrived-by, slid-joined, served-front, room-open}
 

@@ -4,17 +4,15 @@ use mathlib.Core.List.{List, [], _∷_, map}
 use mathlib.Core.Path.{_≡_, refl, _∙_}
 use Prim.Native.Nat.{ℕ}
 use native.Mathlib.Omega.{arith}
-use lib.Dec.{eqb}
 use lib.ListN.{length}
-use borrow.Author.Tests.{eqb-false}
 use Rattle.rules.specs.History as history
 use Rattle.rules.specs.History.{Request, Choice, Left, nothing, front, choice}
 use Rattle.rules.specs.Picture.{Item, requestOf}
 use Rattle.rules.specs.Steps as steps
 use Rattle.rules.specs.Run.{nextAll}
-use Rattle.rules.specs.Verdict.{verdict, afterwards, layOutNumber}
+use Rattle.rules.specs.Verdict.{accepts, afterwards, layOutNumber}
 use Rattle.answers.specs.Engine.{asChoice, asLeft}
-use Rattle.answers.specs.Offered.{refusal, arrivedOf, servedOf}
+use Rattle.answers.specs.Offered.{refusalOn, arrivedOf, servedOf}
 use Rattle.answers.specs.declared.Refusal.{Refusal}
 use Rattle.answers.specs.declared.Arrived.the-variants as arriveTells
 use Rattle.answers.specs.declared.Served.the-variants as serveTells
@@ -44,30 +42,30 @@ none-waits f (i ∷ w) e = let z : _≡_ {A = ℕ} 0 1 = cc in absurd (omega ari
 module _ (t : List ℕ) where
   -- an arrive that is turned away
   pub turned-stays : (id ticket : ℕ) → arriveAnswer id t ≡ arriveTells.Turned → afterwards (λ P. steps.arrived P id ticket) t ≡ t
-  turned-stays id ticket = go (eqb (verdict t) 0) refl
+  turned-stays id ticket = go (accepts t) refl
     where
-      go : (b : Bool) → eqb (verdict t) 0 ≡ b → cond b (arrivedOf (asChoice (choice (limitsIn t) (waitingIn t) id))) (arriveTells.Refused (refusal (verdict t))) ≡ arriveTells.Turned
+      go : (b : Bool) → accepts t ≡ b → cond b (arrivedOf (asChoice (choice (limitsIn t) (waitingIn t) id))) (arriveTells.Refused (refusalOn t)) ≡ arriveTells.Turned
           → afterwards (λ P. steps.arrived P id ticket) t ≡ t
       go true e h = all-stay (λ P. steps.arrived P id ticket) t (arrived-by (lent t) id ticket (turned-away (choice (limitsIn t) (waitingIn t) id) h))
-      go false e h = refused-stay (λ P. steps.arrived P id ticket) t (eqb-false (verdict t) 0 e)
+      go false e h = refused-stay (λ P. steps.arrived P id ticket) t e
 
   -- a serve that is refused, also with 5 where nobody waits
   pub idle-stays : (x : Refusal) → serveAnswer t ≡ serveTells.Refused x → afterwards steps.served t ≡ t
-  idle-stays x = go (eqb (verdict t) 0) refl
+  idle-stays x = go (accepts t) refl
     where
-      go : (b : Bool) → eqb (verdict t) 0 ≡ b → cond b (servedOf (asLeft (history.served (waitingIn t)))) (serveTells.Refused (refusal (verdict t))) ≡ serveTells.Refused x
+      go : (b : Bool) → accepts t ≡ b → cond b (servedOf (asLeft (history.served (waitingIn t)))) (serveTells.Refused (refusalOn t)) ≡ serveTells.Refused x
           → afterwards steps.served t ≡ t
       go true e h =
           all-stay steps.served t
           (served-nobody (lent t) (none-waits (requestOf (lent t .clients)) (lent t .window) (none-left (history.served (waitingIn t)) x h)))
-      go false e h = refused-stay steps.served t (eqb-false (verdict t) 0 e)
+      go false e h = refused-stay steps.served t e
 
   -- a question
   pub asked-stays : (x : Question) → words (ask x) t ≡ t
   asked-stays x = refl
 
   -- any call but a lay-out where the table is refused
-  pub refused-stays : (verdict t ≡ 0 → ⊥) → (c : Call) → ((q : ℕ) → c ≡ layOut q → ⊥) → words c t ≡ t
+  pub refused-stays : accepts t ≡ false → (c : Call) → ((q : ℕ) → c ≡ layOut q → ⊥) → words c t ≡ t
   refused-stays n (carry c) other = command-words c t ∙ refused-stay _ t n
   refused-stays n (run day bytes budget) other = refused-stay (λ P. nextAll P (carriedBy (run day bytes budget))) t n
   refused-stays n (replay bytes first) other = refused-stay (λ P. nextAll P (carriedBy (replay bytes first))) t n

@@ -1,24 +1,23 @@
 -- After a lay-out the table is sound and nobody waits in it, whatever the words held before.
 use mathlib.Core.List.{List, _++_}
 use mathlib.Core.Bool.{Bool, true, false, cond}
-use mathlib.Core.Path.{_≡_, refl, _∙_}
-use Prim.Native.Nat.{ℕ, _≤_, _<_}
+use mathlib.Core.Path.{_≡_, refl}
+use Prim.Native.Nat.{ℕ, _≤_}
 use native.Mathlib.Omega.{arith}
-use lib.Dec.{lit<, ltb}
-use lib.ListN.{length, getD, take, drop, length-append, List·getD-append}
+use lib.Dec.{ltb}
+use lib.ListN.{length, take, drop}
 use lib.Seq.{take-at}
-use borrow.Author.Tests.{le-ltb, ltb-false}
+use borrow.Author.Tests.{ltb-false}
 use Rattle.table.specs.Kind as kind
-use Rattle.table.specs.Regions.{words}
-use Rattle.table.proofs.Draw.{length-words, get-header}
 use Rattle.rules.specs.Numbers as number
 use Rattle.rules.specs.History.{nobody}
 use Rattle.rules.specs.Picture.{plain}
 use Rattle.rules.specs.Steps.{empty}
-use Rattle.rules.specs.Draw.{drawn, draw}
+use Rattle.rules.specs.Draw.{draw}
 use Rattle.rules.specs.Sound.{picture}
-use Rattle.rules.specs.Verdict.{verdict, layOutNumber, laidOut}
-use Rattle.rules.proofs.Empty.{empty-sound, empty-picture, empty-plain}
+use Rattle.rules.specs.Verdict.{accepts, layOutNumber, laidOut}
+use Rattle.rules.proofs.Empty.{empty-right, empty-picture, empty-plain}
+use Rattle.rules.proofs.Verdict.{drawn-long, drawn-accepted}
 
 -- what number 0 says of Q and of the words lent
 pub accepted : (q n : ℕ) → layOutNumber q n ≡ 0 → (kind.inRange q ≡ true) × (kind.size q ≤ n)
@@ -34,27 +33,12 @@ module _ (q : ℕ) (t : List ℕ) (e : layOutNumber q (length t) ≡ 0) where
   unfolding laidOut
   laid-is = rw e
 
-  long : length (draw (empty q)) ≡ kind.size q
-  unfolding draw
-  long = length-words q (drawn (empty q))
-
-  header : (f : ℕ) → f < kind.headerWords → getD (laidOut q t) f 0 ≡ drawn (empty q) .header f
-  unfolding draw
-  header f h =
-      rw laid-is (List·getD-append (words q (drawn (empty q))) (drop (kind.size q) t) 0 f (rw length-words (omega arith)) ∙ get-header q (drawn (empty q)) f h)
-
   pub laid-table : take (kind.size q) (laidOut q t) ≡ draw (empty q)
-  laid-table = rw laid-is (take-at (draw (empty q)) (drop (kind.size q) t) (kind.size q) long)
+  laid-table = rw laid-is (take-at (draw (empty q)) (drop (kind.size q) t) (kind.size q) (drawn-long (empty q)))
 
   -- no call refuses it
-  pub laid-verdict : verdict (laidOut q t) ≡ 0
-  unfolding verdict
-  laid-verdict =
-      let a = accepted q (length t) e in
-      let n : kind.size q ≤ length (laidOut q t) = rw (laid-is, length-append, long) (omega arith) in
-      let mark : getD (laidOut q t) kind.markAt 0 ≡ kind.mark = header kind.markAt (lit< tt) in
-      let size : getD (laidOut q t) kind.placesAt 0 ≡ q = header kind.placesAt (lit< tt) in
-      rw (le-ltb (length (laidOut q t)) kind.headerWords (omega arith), mark, size, a .0, le-ltb (length (laidOut q t)) (kind.size q) n, laid-table, empty-sound q (a .0))
+  pub laid-accepted : accepts (laidOut q t) ≡ true
+  laid-accepted = rw laid-is (drawn-accepted (empty q) (empty-right q (accepted q (length t) e .0)) (drop (kind.size q) t))
 
   -- and nobody waits
   pub laid-waits : plain (picture (take (kind.size q) (laidOut q t))) ≡ nobody

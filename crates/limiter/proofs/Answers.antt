@@ -3,15 +3,15 @@ use mathlib.Core.Bool.{Bool, true, false, cond}
 use mathlib.Core.List.{List, _∷_, map}
 use mathlib.Core.Path.{_≡_, refl, ap, _∙_}
 use Prim.Native.Nat.{ℕ}
-use lib.Dec.{eqb}
 use lib.ListN.{take}
 use Rattle.table.specs.Kind as kind
 use Rattle.rules.specs.Picture.{Picture}
 use Rattle.rules.specs.Sound.{picture}
-use Rattle.rules.specs.Verdict.{verdict}
+use Rattle.rules.specs.Verdict.{accepts}
+use Rattle.rules.proofs.Verdict.{refused-some}
 use Rattle.answers.specs.declared.Refusal.{Refusal}
 use Rattle.answers.specs.declared.Opened.the-variants as opened
-use Rattle.answers.specs.Offered.{refusal, openedOn}
+use Rattle.answers.specs.Offered.{refusalOn, openedOn}
 use Rattle.limiter.specs.Lent.{lent, orRefused, refusalOf, numbersOf}
 use Rattle.limiter.proofs.Lent.{refuses, answers}
 
@@ -32,12 +32,12 @@ module _ {A : Type 0} (K : Call A) (t : List ℕ) where
 
   -- the numbers are those of the answer
   so : {r : A} → r ≡ orRefused (K .refused) t (K .reply (lent t)) → Answers r
-  so {r} is = (is, ap (K .numbers) is ∙ go (eqb (verdict t) 0) refl)
+  so {r} is = (is, ap (K .numbers) is ∙ go (accepts t) refl)
     where
-      go : (z : Bool) → eqb (verdict t) 0 ≡ z → K .numbers (cond z (K .reply (lent t)) (K .refused (refusal (verdict t))))
-          ≡ numbersOf (cond z (K .own (lent t)) (verdict t)) (K .values (lent t))
+      go : (z : Bool) → accepts t ≡ z → K .numbers (cond z (K .reply (lent t)) (K .refused (refusalOn t)))
+          ≡ numbersOf (cond z (K .own (lent t)) (refusalOn t .number)) (K .values (lent t))
       go true f = K .given (lent t)
-      go false f = K .none (refusal (verdict t)) (lent t) ∙ rw f
+      go false f = K .none (refusalOn t) (lent t) ∙ rw (refused-some t f)
 
   pub call-refuses : {x : Refusal} → opened.Refused x ≡ openedOn t → Answers (K .refused x)
   call-refuses o = so (refuses t o (K .refused) (K .reply (lent t)))

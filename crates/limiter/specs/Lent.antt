@@ -7,9 +7,9 @@ use lib.ListN.{take}
 use Rattle.rules.specs.History.{Waiting, Limits}
 use Rattle.rules.specs.Picture.{Picture, limitsOf, plain}
 use Rattle.rules.specs.Sound.{picture}
-use Rattle.rules.specs.Verdict.{room, verdict}
+use Rattle.rules.specs.Verdict.{room, accepts}
 use Rattle.answers.specs.declared.Refusal.{Refusal}
-use Rattle.answers.specs.Offered.{refusal}
+use Rattle.answers.specs.Offered.{refusalOn}
 
 -- the picture of the lent table; the words beyond it are never read
 abbrev pub lent : List ℕ → Picture
@@ -22,11 +22,11 @@ waitingIn t = plain (lent t)
 abbrev pub limitsIn : List ℕ → Limits
 limitsIn t = limitsOf (lent t)
 
--- an answer, or what a table that is refused with 2 or 3 gets
+-- an answer, or what a table that is refused gets
 abbrev pub orRefused : {A : Type 0} → (Refusal → A) → List ℕ → A → A
-orRefused refused t a = cond (eqb (verdict t) 0) a (refused (refusal (verdict t)))
+orRefused refused t a = cond (accepts t) a (refused (refusalOn t))
 
--- the refusal number of a call: the table's 2 or 3 before its own
+-- the refusal number of a call: the table's before its own
 abbrev pub refusalOf : List ℕ → ℕ → ℕ
 refusalOf t own = orRefused (λ x. x .number) t own
 

@@ -6,17 +6,16 @@ use mathlib.Core.Path.{_≡_, refl, ap₂, _∙_}
 use Prim.Native.Nat.{ℕ, zero, suc, _+_, _*_, _≤_}
 use native.Mathlib.Decide.{ℕ-discrete}
 use native.Mathlib.Omega.{arith}
-use lib.Dec.{eqb}
 use lib.ListN.{length, take, drop, length-append, length-take, length-drop}
 use borrow.Author.Tests.{eq-eqb, ne-eqb}
 use Rattle.rules.specs.Run.{outcomes}
 use Rattle.rules.specs.Picture.{Picture, limitsOf, plain}
-use Rattle.rules.specs.Verdict.{verdict}
+use Rattle.rules.specs.Verdict.{accepts}
 use Rattle.rules.proofs.Run.{outcomes-length}
 use Rattle.answers.specs.declared.Report.{Report}
 use Rattle.answers.specs.declared.Replay.{Replay}
 use Rattle.answers.specs.declared.Replayed.the-variants as answer
-use Rattle.answers.specs.Offered.{refusal}
+use Rattle.answers.specs.Offered.{refusalOn}
 use Rattle.recording.specs.Kind as kind
 use Rattle.recording.specs.Block.{failing}
 use Rattle.recording.specs.Replay.{piecesUpTo, pieces, passedIn, replayedIn, replayStop, replayed}
@@ -63,9 +62,9 @@ replay-counted P first s e =
 
 -- what is answered, and is no refusal, is such a report
 pub answer-counted : (t : List ℕ) (first : ℕ) (s : List ℕ) {r : Replay} → answer.Reported r ≡ replayAnswer first s t → Counted r × (kind.blockBytes * r .blocks ≤ length s)
-answer-counted t first s {r} e = replay-counted (lent t) first s (go (eqb (verdict t) 0) e)
+answer-counted t first s {r} e = replay-counted (lent t) first s (go (accepts t) e)
   where
-    go : (b : Bool) → answer.Reported r ≡ cond b (answer.Reported (replayFrom (lent t) first s)) (answer.Refused (refusal (verdict t))) → r ≡ replayFrom (lent t) first s
+    go : (b : Bool) → answer.Reported r ≡ cond b (answer.Reported (replayFrom (lent t) first s)) (answer.Refused (refusalOn t)) → r ≡ replayFrom (lent t) first s
     go true e = cc
     go false e = let z : _≡_ {A = ℕ} 0 1 = cc in absurd (omega arith)
 

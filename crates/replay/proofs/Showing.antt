@@ -4,12 +4,11 @@ use mathlib.Core.List.{List, [], _∷_}
 use mathlib.Core.Path.{_≡_, refl, sym, ap, _∙_}
 use Prim.Native.Nat.{ℕ, suc, _+_, _*_, _^_, _≤_, _<_}
 use native.Mathlib.Omega.{arith}
-use lib.Dec.{eqb}
 use lib.ListN.{length, getD, take, length-append}
 use lib.Seq.{length-take-le}
 use Rattle.table.specs.Kind as kind
 use Rattle.rules.specs.History.{heaviest}
-use Rattle.rules.specs.Verdict.{verdict}
+use Rattle.rules.specs.Verdict.{accepts}
 use Rattle.answers.specs.declared.Replay.{Replay}
 use Rattle.answers.specs.declared.Replayed.the-variants as reported
 use Rattle.answers.specs.declared.Refusal.{Refusal}
@@ -18,7 +17,7 @@ use Rattle.answers.specs.declared.Listing.the-variants as listings
 use Rattle.answers.specs.declared.Listed.the-variants as answer
 use Rattle.answers.specs.Numbers.{replayedNumbers}
 use Rattle.answers.specs.Engine.{listing}
-use Rattle.answers.specs.Offered.{refusal, listedOf}
+use Rattle.answers.specs.Offered.{refusalOn, listedOf}
 use Rattle.questions.specs.Output.{listedWords}
 use Rattle.limiter.specs.Lent.{waitingIn}
 use Rattle.limiter.specs.Questions.{listedAnswer, listedOut}
@@ -51,10 +50,10 @@ module _ (t ps : List ℕ) (long : length ps ≡ 2 * kind.largest) where
 
   -- a number is answered: the table is not refused, and so many pairs are listed
   module _ {n : ℕ} (e : answer.Number n ≡ listedAnswer kind.largest (length ps) t) where
-    not-refused : eqb (verdict t) 0 ≡ true
-    not-refused = go (eqb (verdict t) 0) refl e
+    not-refused : accepts t ≡ true
+    not-refused = go (accepts t) refl e
       where
-        go : (b : Bool) → eqb (verdict t) 0 ≡ b → answer.Number n ≡ cond b (listedOf all) (answer.Refused (refusal (verdict t))) → eqb (verdict t) 0 ≡ true
+        go : (b : Bool) → accepts t ≡ b → answer.Number n ≡ cond b (listedOf all) (answer.Refused (refusalOn t)) → accepts t ≡ true
         go true y e = y
         go false y e = let z : _≡_ {A = ℕ} 0 1 = cc in absurd (omega arith)
 
@@ -84,13 +83,13 @@ module _ (t ps : List ℕ) (long : length ps ≡ 2 * kind.largest) where
   -- a refusal is answered: the table is refused, for there is room
   module _ {x : Refusal} (e : answer.Refused x ≡ listedAnswer kind.largest (length ps) t) where
     nobody : waitingLines t ≡ []
-    nobody = go (eqb (verdict t) 0) e
+    nobody = go (accepts t) e
       where
         never : (l : Listing) → l ≡ all → answer.Refused x ≡ listedOf l → ⊥
         never (listings.Pairs m) y e = let z : _≡_ {A = ℕ} 0 1 = cc in omega arith
         never listings.NoRoom y e = printed.never-refused kind.largest (waitingIn t) ps room y
 
-        go : (b : Bool) → answer.Refused x ≡ cond b (listedOf all) (answer.Refused (refusal (verdict t))) → cond b (clientLines (heaviest kind.largest (waitingIn t))) [] ≡ []
+        go : (b : Bool) → answer.Refused x ≡ cond b (listedOf all) (answer.Refused (refusalOn t)) → cond b (clientLines (heaviest kind.largest (waitingIn t))) [] ≡ []
         go true e = absurd (never all refl e)
         go false e = refl
 

@@ -12,10 +12,10 @@ use Rattle.rules.specs.History.{nobody}
 use Rattle.rules.specs.Picture.{concat, plain}
 use Rattle.rules.specs.Draw.{draw}
 use Rattle.rules.specs.Steps.{count-up, empty}
-use Rattle.rules.specs.Sound.{picture, sound, Right}
+use Rattle.rules.specs.Sound.{picture, Right}
 use Rattle.rules.proofs.Rows.{notin, below-in}
 use Rattle.rules.proofs.Decide.{range-decides}
-use Rattle.rules.proofs.Sound.{picture-draw, draw-sound}
+use Rattle.rules.proofs.Sound.{picture-draw}
 
 count-up-in : (n a x : ℕ) → In x (count-up n a) → (a ≤ x) × (x < a + n)
 count-up-in zero a x i = absurd i
@@ -58,9 +58,6 @@ module _ (q : ℕ) (e : kind.inRange q ≡ true) where
         apart = rw (concat-empty q) tt;
         nobody = rw (concat-empty q) tt;
       }
-
-  pub empty-sound : sound (draw (empty q)) ≡ true
-  empty-sound = draw-sound (empty q) empty-right
 
   pub empty-picture : picture (draw (empty q)) ≡ empty q
   empty-picture = picture-draw (empty q) empty-right

@@ -27,5 +27,6 @@ pub mod Evicting
 pub mod Moved
 pub mod Written
 pub mod Ready
+pub mod Verdict
 pub mod OneOutcome
 pub mod Cases

@@ -8,7 +8,7 @@ use Rattle.table.specs.Regions.{at}
 use Rattle.table.proofs.Draw.{at-other}
 use Rattle.rules.specs.Rows.{headOr, lastOr, In, NotIn, Distinct, Below}
 use Rattle.rules.specs.Linked.{Link, Links, Run, Linked, Chain}
-use Rattle.rules.proofs.Rows.{not-both, notin, other, last-in, in-below, past}
+use Rattle.rules.proofs.Rows.{not-both, notin, other, past}
 
 pub run-head : (b o : ℕ → ℕ) (p h : ℕ) (xs : List ℕ) (n l : ℕ) → Run b o p h xs n l → h ≡ headOr n xs
 run-head b o p h [] n l r = r .0
@@ -18,9 +18,17 @@ pub run-last : (b o : ℕ → ℕ) (p h : ℕ) (xs : List ℕ) (n l : ℕ) → R
 run-last b o p h [] n l r = r .1
 run-last b o p h (x ∷ xs) n l r = run-last b o x (o x) xs n l (r .2)
 
--- the last row of a list, or none, is a link
-pub last-link : (q : ℕ) (xs : List ℕ) → Below q xs → Link q (lastOr kind.none xs)
-last-link q xs b n = ⊎-elim (λ e. absurd (n e)) (λ i. in-below q xs b (lastOr kind.none xs) i) (last-in kind.none xs)
+-- none is a link, and so is the first row of a list, or the last, or else a link
+pub none-link : (q : ℕ) → Link q kind.none
+none-link q n = absurd (n refl)
+
+pub head-link : (q d : ℕ) (xs : List ℕ) → Link q d → Below q xs → Link q (headOr d xs)
+head-link q d [] l b = l
+head-link q d (x ∷ xs) l b = λ _. b .0
+
+pub last-link : (q p : ℕ) (xs : List ℕ) → Link q p → Below q xs → Link q (lastOr p xs)
+last-link q p [] l b = l
+last-link q p (x ∷ xs) l b = last-link q x xs (λ _. b .0) (b .1)
 
 -- the row before each row of a run is in it too, or is the one before them all; so links that agree both ways from an end that is none of the rows repeat none
 module _ (b o : ℕ → ℕ) where

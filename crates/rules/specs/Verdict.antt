@@ -23,9 +23,13 @@ verdict t =
     (cond (ltb (length t) (room t)) number.tooShort (cond (sound (take (room t) t)) 0 number.unsound))
     number.unsound)
 
+-- whether no test refuses them
+unfoldable pub accepts : List ℕ → Bool
+accepts t = eqb (verdict t) 0
+
 -- the words after a call that takes the picture to the next: as they were where it is refused, and beyond the table
 unfoldable pub afterwards : (Picture → Picture) → List ℕ → List ℕ
-afterwards f t = cond (eqb (verdict t) 0) (draw (f (picture (take (room t) t))) ++ drop (room t) t) t
+afterwards f t = cond (accepts t) (draw (f (picture (take (room t) t))) ++ drop (room t) t) t
 
 -- lay-out's refusal number, of a Q and the number of words lent: Q out of range, too few words
 abbrev pub layOutNumber : ℕ → ℕ → ℕ

@@ -14,7 +14,7 @@ use Rattle.rules.specs.Linked.{Link}
 use Rattle.rules.specs.Picture.{Item, itemRow, ownRows, countOf}
 use Rattle.rules.specs.Parts.{Queued}
 use Rattle.rules.proofs.Rows.{below-right, in-below, head-some, without-length}
-use Rattle.rules.proofs.Linked.{last-link}
+use Rattle.rules.proofs.Linked.{none-link, last-link}
 use Rattle.rules.proofs.Columns.{chain-head}
 use Rattle.rules.proofs.Look.{own-in}
 use Rattle.rules.proofs.Held.{own-few}
@@ -45,7 +45,7 @@ module _ {q : ℕ} {t : List ℕ} {c e : ℕ} (m : Room q t c e) where
   pub newest-link : c < q → Link q e
   newest-link hc =
       let s = m .shown in
-      rw (m .newest) (last-link q (ownRows c (s .window)) (s .queued .own c hc .linked .below))
+      rw (m .newest) (last-link q kind.none (ownRows c (s .window)) (none-link q) (s .queued .own c hc .linked .below))
 
   pub back-link : (a : List ℕ) → Writes q t a (takeFrom freeItems) → Link q (getD a kind.backAt 0)
   back-link a x =

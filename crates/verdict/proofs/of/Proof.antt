@@ -5,17 +5,18 @@ use lib.Seq.{length-take-le}
 use borrow.Author.Tests.{not-true, not-false}
 use Rattle.table.specs.Kind as kind
 use Rattle.rules.proofs.Decide.{range-decides}
+use Rattle.rules.proofs.Verdict.{under-header, other-mark, other-places, short-for-places}
 use Rattle.answers.specs.declared.Opened.the-variants as opened
-use Rattle.verdict.proofs.Tests.{under-header, other-mark, other-places, short-for-places, sized-part, marked-part, not-sound, is-sound}
+use Rattle.verdict.proofs.Tests.{refused, sized-part, marked-part, not-sound, is-sound}
 use borrow.Author.Needs.{needs}
 use Rattle.verdict.proofs.of.Statement.{statement}
 use Rattle.verdict.proofs.of.Tie as tie
 
 returns : tie.Need-returns
-returns c = ap opened.Refused (c .of .ensures) ∙ under-header _ (c .before .if1 .taken)
+returns c = ap opened.Refused (c .of .ensures) ∙ refused _ 1 (under-header _ (c .before .if1 .taken))
 
 returns-2 : tie.Need-returns-2
-returns-2 c = ap opened.Refused (c .of2 .ensures) ∙ other-mark _ (c .before .before .before .if1 .left) (c .before .if2 .taken)
+returns-2 c = ap opened.Refused (c .of2 .ensures) ∙ refused _ 2 (other-mark _ (c .before .before .before .if1 .left) (c .before .if2 .taken))
 
 cast-q : tie.Need-cast-q
 cast-q c = omega (arith, c .shared-slice-known3 .given kind.placesAt)
@@ -24,7 +25,7 @@ returns-3 : tie.Need-returns-3
 returns-3 c =
     let i = c .before .before in
     ap opened.Refused (c .of3 .ensures)
-    ∙ other-places _ (i .before .before .before .before .if1 .left) (i .before .before .if2 .left) (sym (i .in-range .ensures) ∙ not-true _ (c .before .if3 .taken))
+    ∙ refused _ 2 (other-places _ (i .before .before .before .before .if1 .left) (i .before .before .if2 .left) (sym (i .in-range .ensures) ∙ not-true _ (c .before .if3 .taken)))
 
 size-requires : tie.Need-size-requires
 size-requires c κs = range-decides _ .0 (sym (c .before .in-range .ensures) ∙ not-false _ (c .if3 .left)) .1
@@ -35,7 +36,7 @@ returns-4 c =
     let e = z .before in
     let i = e .before in
     ap opened.Refused (c .of4 .ensures)
-    ∙ short-for-places _ (i .before .before .before .before .if1 .left) (i .before .before .if2 .left) (sym (i .in-range .ensures) ∙ not-false _ (e .if3 .left)) _ (z .size .ensures) (c .before .if4 .taken)
+    ∙ refused _ 1 (short-for-places _ (i .before .before .before .before .if1 .left) (i .before .before .if2 .left) (sym (i .in-range .ensures) ∙ not-false _ (e .if3 .left)) (rw (← z .size .ensures) (c .before .if4 .taken)))
 
 slice-aggregate-whole : tie.Need-slice-aggregate-whole
 slice-aggregate-whole c = sym (length-take-le _ _ (search needs))
