@@ -1,11 +1,13 @@
 // What the calls answer. An engine answers on a sound table, which no table's refusal can meet; the calls offered outside answer that, or a refusal.
+#![tactic(auto)]
+
 ghost use Rattle.std.specs.Prelude.{◌≡◌};
 ghost use Rattle.answers.specs.Offered.{refusal, arrived_of, slid_of, served_of, listed_of, told_of};
 
 use table::Ticket;
 
 // A refusal, with its number.
-#[derive(Drop)]
+#[derive(Clone, Copy)]
 pub struct Refusal {
     pub number: u32,
 }
@@ -47,21 +49,21 @@ impl Refusal {
 }
 
 // A request: a client id and a ticket.
-#[derive(Drop)]
+#[derive(Clone, Copy)]
 pub struct Request {
     pub id: u32,
     pub ticket: Ticket,
 }
 
 // What a call finds in the words that it is lent: a sound table of so many places, or why it is refused.
-#[derive(Drop)]
+#[derive(Clone, Copy)]
 pub enum Opened {
     Table(usize),
     Refused(Refusal),
 }
 
 // What an arrival comes to on a sound table.
-#[derive(Drop)]
+#[derive(Clone, Copy)]
 pub enum Choice {
     Joined,
     Evicted(Request),
@@ -69,28 +71,28 @@ pub enum Choice {
 }
 
 // The request that left at the front, if one did.
-#[derive(Drop)]
+#[derive(Clone, Copy)]
 pub enum Left {
     Nothing,
     One(Request),
 }
 
 // A listing on a sound table: how many pairs were written, or that the output has no room for them.
-#[derive(Drop)]
+#[derive(Clone, Copy)]
 pub enum Listing {
     Pairs(usize),
     NoRoom,
 }
 
 // A ticket of a client on a sound table, if there is such a client.
-#[derive(Drop)]
+#[derive(Clone, Copy)]
 pub enum OwnTicket {
     Ticket(Ticket),
     NoClient,
 }
 
 // What a run reports: the number at which it stopped, how many commands it carried out, and the six totals.
-#[derive(Drop)]
+#[derive(Clone, Copy)]
 pub struct Report {
     pub stop: u32,
     pub done: u64,
@@ -114,14 +116,14 @@ impl Report {
 }
 
 // What a replay reports: how many blocks it replayed, and of their commands what a run reports, with the replay's stop.
-#[derive(Drop)]
+#[derive(Clone, Copy)]
 pub struct Replay {
     pub blocks: u64,
     pub report: Report,
 }
 
 // The answers of the calls offered outside.
-#[derive(Drop)]
+#[derive(Clone, Copy)]
 pub enum Arrived {
     Joined,
     Evicted(Request),
@@ -129,44 +131,44 @@ pub enum Arrived {
     Refused(Refusal),
 }
 
-#[derive(Drop)]
+#[derive(Clone, Copy)]
 pub enum Slid {
     Joined,
     Passed(Request),
     Refused(Refusal),
 }
 
-#[derive(Drop)]
+#[derive(Clone, Copy)]
 pub enum Served {
     Left(Request),
     Refused(Refusal),
 }
 
-#[derive(Drop)]
+#[derive(Clone, Copy)]
 pub enum Listed {
     Number(usize),
     Refused(Refusal),
 }
 
-#[derive(Drop)]
+#[derive(Clone, Copy)]
 pub enum Counted {
     Number(u32),
     Refused(Refusal),
 }
 
-#[derive(Drop)]
+#[derive(Clone, Copy)]
 pub enum Told {
     Ticket(Ticket),
     Refused(Refusal),
 }
 
-#[derive(Drop)]
+#[derive(Clone, Copy)]
 pub enum Ran {
     Reported(Report),
     Refused(Refusal),
 }
 
-#[derive(Drop)]
+#[derive(Clone, Copy)]
 pub enum Replayed {
     Reported(Replay),
     Refused(Refusal),

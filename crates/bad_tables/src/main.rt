@@ -1,4 +1,6 @@
 // Every call on tables that are damaged, short, or sound in unusual ways, a line for each; then lay-out and carve on all kinds of Q and room.
+#![tactic(auto)]
+
 mod damage;
 mod judge;
 mod room;

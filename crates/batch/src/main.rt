@@ -1,4 +1,6 @@
 // The batch printer on standard input. One byte more than it takes is read, to notice over-long input.
+#![tactic(auto)]
+
 use libc::{STDIN_FILENO, STDOUT_FILENO};
 
 fn main() {

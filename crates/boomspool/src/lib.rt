@@ -1,5 +1,7 @@
 // The calls that a C server links: numbers, slices and structs by value, each thin over the proved call of the same name.
 // None asks anything of what it is lent; include/boomspool.h declares them for C.
+#![tactic(auto)]
+
 ghost use Rattle.std.specs.Prelude.{◌≡◌, [], ◌∷◌, ◌≤◌, length};
 ghost use Rattle.table.specs.Regions.{altered};
 ghost use Rattle.rules.specs.History as history;
@@ -21,7 +23,7 @@ use table::{LinkedTable, Ticket};
 
 // The reply to an arrival: what happened, and the request that left for it.
 #[repr(C)]
-#[derive(Drop)]
+#[derive(Clone, Copy)]
 pub struct BoomspoolArrived {
     pub number: u32,
     pub happened: u32,
@@ -31,7 +33,7 @@ pub struct BoomspoolArrived {
 
 // The reply to a slide: whether a request passed, and which.
 #[repr(C)]
-#[derive(Drop)]
+#[derive(Clone, Copy)]
 pub struct BoomspoolSlid {
     pub number: u32,
     pub passed: u32,
@@ -41,7 +43,7 @@ pub struct BoomspoolSlid {
 
 // The reply to serve: the request that left.
 #[repr(C)]
-#[derive(Drop)]
+#[derive(Clone, Copy)]
 pub struct BoomspoolServed {
     pub number: u32,
     pub id: u32,
@@ -50,7 +52,7 @@ pub struct BoomspoolServed {
 
 // The reply to a listing: how many pairs were written.
 #[repr(C)]
-#[derive(Drop)]
+#[derive(Clone, Copy)]
 pub struct BoomspoolListed {
     pub number: u32,
     pub pairs: usize,
@@ -58,7 +60,7 @@ pub struct BoomspoolListed {
 
 // The reply to count.
 #[repr(C)]
-#[derive(Drop)]
+#[derive(Clone, Copy)]
 pub struct BoomspoolCounted {
     pub number: u32,
     pub count: u32,
@@ -66,7 +68,7 @@ pub struct BoomspoolCounted {
 
 // The reply to oldest and newest.
 #[repr(C)]
-#[derive(Drop)]
+#[derive(Clone, Copy)]
 pub struct BoomspoolTold {
     pub number: u32,
     pub ticket: Ticket,
@@ -74,7 +76,7 @@ pub struct BoomspoolTold {
 
 // What a run reports: where it stopped, how many commands it carried out, and the six totals.
 #[repr(C)]
-#[derive(Drop)]
+#[derive(Clone, Copy)]
 pub struct BoomspoolRan {
     pub stop: u32,
     pub done: u64,
@@ -88,7 +90,7 @@ pub struct BoomspoolRan {
 
 // What a replay reports: where it stopped, how many blocks it replayed and commands it carried out, and the six totals.
 #[repr(C)]
-#[derive(Drop)]
+#[derive(Clone, Copy)]
 pub struct BoomspoolReplayed {
     pub stop: u32,
     pub blocks: u64,

@@ -1,4 +1,6 @@
 // What the batch printer prints for the inputs in the files that the arguments name; then the whiteboard's sums that are neither proved nor the printer's.
+#![tactic(auto)]
+
 mod listing;
 mod running;
 

@@ -1,10 +1,12 @@
 // What a command is: nine bytes, which of them are one, and what they say. Whatever reads commands, reads them here.
+#![tactic(auto)]
+
 ghost use Rattle.std.specs.Prelude.{◌≡◌, ◌+◌, ◌≤◌, ◌<◌, length, drop};
 ghost use Rattle.rules.specs.Run.{command_bytes, four_bytes};
 ghost use Rattle.command.specs.Bytes.{command_at, is_known};
 
 // What nine bytes say.
-#[derive(Drop)]
+#[derive(Clone, Copy)]
 pub struct Command {
     pub kind: u8,
     pub id: u32,

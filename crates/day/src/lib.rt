@@ -1,10 +1,12 @@
 // The host's day record: six totals, brought up to date where they stand by each run. Each stays at its largest value once there.
+#![tactic(auto)]
+
 ghost use Rattle.std.specs.Prelude.{◌≡◌};
 ghost use Rattle.day.specs.Day.{sum_of, totals_of, added, after_run};
 
 use answers::{Ran, Report};
 
-#[derive(Drop)]
+#[derive(Clone, Copy)]
 pub struct Day {}
 
 impl Day {

@@ -1,4 +1,6 @@
 // The check of a chain of free rows: one for items and clients, which differ in where their rows stand and by which word free ones chain.
+#![tactic(auto)]
+
 ghost use Rattle.std.specs.Prelude.{◌+◌, ◌≤◌, length, get_or};
 ghost use Rattle.rules.specs.Tells.{Tells};
 ghost use Rattle.free_check.specs.Free.{Fit, Blank, Free, words_of};
@@ -6,7 +8,7 @@ ghost use Rattle.free_check.specs.Free.{Fit, Blank, Free, words_of};
 use table::LinkedTable;
 
 // Rows of one kind: where row 0 stands, the words of a row, and the one that chains free rows.
-#[derive(Drop)]
+#[derive(Clone, Copy)]
 pub struct Rows {
     pub from: usize,
     pub width: usize,

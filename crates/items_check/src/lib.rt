@@ -1,5 +1,7 @@
 // The items' part of the soundness check, in one pass without marks: links that agree both ways from a none end repeat no row,
 // a chain that ends repeats none, and a free row has both own links 0, as no waiting one has.
+#![tactic(auto)]
+
 ghost use Rattle.std.specs.Prelude.{◌<◌, ◌≤◌, length};
 ghost use Rattle.table.specs.Regions.{Sized, regions};
 ghost use Rattle.items_check.specs.Items.{Checked};

@@ -1,4 +1,6 @@
 // Lay-out and carve: the two calls that make a table out of words that the host lends. Neither asks anything of them.
+#![tactic(auto)]
+
 ghost use Rattle.std.specs.Prelude.{◌≡◌, ◌≤◌, ◌<◌, length, replicate};
 ghost use Rattle.table.specs.Kind as kind;
 ghost use Rattle.table.specs.Regions.{Sized, Writes, words};
@@ -100,7 +102,7 @@ pub fn lay_out(t: &mut [u32], q: usize) -> u32
 }
 
 // Where a part of a pool begins and ends.
-#[derive(Drop)]
+#[derive(Clone, Copy)]
 struct Part {
     from: usize,
     to: usize,

@@ -1,5 +1,7 @@
 // The limiter's calls, as they are offered outside: none of them asks anything of what it is lent.
 // A call makes the spread table, opens the lent words, and works in the part of them that is the table.
+#![tactic(auto)]
+
 ghost use Rattle.std.specs.Prelude.{◌≡◌, [], ◌∷◌, ◌≤◌, length};
 ghost use Rattle.table.specs.Regions.{altered};
 ghost use Rattle.rules.specs.History as history;

@@ -1,5 +1,7 @@
 // Doubly linked rows and free rows inside a table. One code, by the places of a list's words, serves the window, the clients' order and each client's own items.
 // The functions rest on the table's size (`Sized`) and on links that can be followed (`Link`), as those of a sound table can.
+#![tactic(auto)]
+
 ghost use Rattle.std.specs.Prelude.{◌≡◌, ◌+◌, ◌<◌, ◌≤◌, length, get_or, set};
 ghost use Rattle.table.specs.Kind as kind;
 ghost use Rattle.table.specs.Regions.{Sized, Writes, item_word, client_word};
@@ -11,7 +13,7 @@ ghost use Rattle.links.specs.Places.{places, word_at, link_at, back_word, on_wor
 use table::LinkedTable;
 
 // A doubly linked list by its places: where row 0 stands, and how many words a row has; which of them link back and on; where the ends stand.
-#[derive(Drop)]
+#[derive(Clone, Copy)]
 struct Places {
     rows: usize,
     width: usize,

@@ -1,5 +1,7 @@
 // The lookup of clients by id: for each bucket a chain of client rows.
 // Its functions rest on the table's size and on the spread table, which is lent down; find and leave also on a table that keeps its clients.
+#![tactic(auto)]
+
 ghost use Rattle.std.specs.Prelude.{◌≡◌, true, ◌<◌, ◌≤◌, length, take};
 ghost use Rattle.table.specs.Kind as kind;
 ghost use Rattle.table.specs.Regions.{Sized, Writes, client_word, bucket_word};
@@ -15,14 +17,14 @@ ghost use Rattle.lookup.specs.Inside.Reading.{id_of, next_of, from, Ends, Reache
 use table::LinkedTable;
 
 // Where an id was sought: its client's row, or none; and its bucket, which only the lookup reads.
-#[derive(Drop)]
+#[derive(Clone, Copy)]
 pub struct Sought {
     pub row: u32,
     bucket: usize,
 }
 
 // The key to what the promise keeps shut (specs/Promise). Only this crate's proofs can name it, and no code makes one.
-#[derive(Drop)]
+#[derive(Clone, Copy)]
 enum Key {
     Own,
 }

@@ -1,5 +1,7 @@
 // The order of clients (HL-HITTERS, algorithms 2, 3 and 4): a list from lightest to heaviest, and the two ends of each group of equal counts.
 // The functions rest on a sound table: its size (`Sized`), an order that is right (`Listed`, `Vacant`), and to dismiss also a lookup that is (`Kept`).
+#![tactic(auto)]
+
 ghost use Rattle.std.specs.Prelude.{◌≡◌, ◌+◌, ◌<◌, ◌≤◌, get_or};
 ghost use Rattle.table.specs.Kind as kind;
 ghost use Rattle.table.specs.Regions.{Sized, Writes, client_word, count_word};

@@ -1,5 +1,7 @@
 // The clients' part of the soundness check: their order, the count rows and the free client rows. It reads each client row once and keeps no marks.
 // It rests on the table's size (`Sized`), which the calls offered outside have tested, and on nothing else.
+#![tactic(auto)]
+
 ghost use Rattle.std.specs.Prelude.{◌≡◌, ◌≤◌, ◌<◌};
 ghost use Rattle.table.specs.Regions.{Sized, regions};
 ghost use Rattle.table.specs.Owners.{order_words};

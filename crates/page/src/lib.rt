@@ -1,4 +1,6 @@
 // Text and decimal numbers, written into lent bytes.
+#![tactic(auto)]
+
 ghost use Rattle.std.specs.Prelude.{◌≡◌, ◌++◌, ◌%◌, length, get_or};
 ghost use Rattle.page.specs.Text.{decimal, digit as digit_of};
 ghost use Rattle.page.specs.Form.{filled};

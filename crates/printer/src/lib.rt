@@ -1,4 +1,6 @@
 // The batch printer: what it prints for an input is put into lent bytes, and a program writes them.
+#![tactic(auto)]
+
 ghost use Rattle.std.specs.Prelude.{true, [], ◌∷◌, ◌++◌, ◌≡◌, ◌*◌, ◌≤◌, ◌<◌, length, take, drop};
 ghost use Rattle.table.specs.Kind as kind;
 ghost use Rattle.rules.specs.History.{heaviest};

@@ -1,5 +1,7 @@
 // The questions on a table: heaviest and lightest first, count, oldest and newest. None of them writes a word of it.
 // They rest on words that are exactly a sound table (`Ready`) and on the spread table, which is lent down.
+#![tactic(auto)]
+
 ghost use Rattle.std.specs.Prelude.{true, ◌≡◌, ◌++◌, ℕ, ◌*◌, ◌≤◌, ◌<◌, min, length, drop};
 ghost use Rattle.table.specs.Kind as kind;
 ghost use Rattle.table.specs.Regions.{Sized, regions};

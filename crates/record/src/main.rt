@@ -1,5 +1,7 @@
 // Records commands of nine bytes from standard input, a block at a time, so that memory does not grow with the recording.
 // What is refused is said on standard error; every command before it is in the recording.
+#![tactic(auto)]
+
 ghost use Rattle.std.specs.Prelude.{true, cond, ◌≡◌, ◌%◌, ◌≤◌, ◌<◌, eqb, length};
 ghost use Rattle.rules.specs.Numbers as number;
 ghost use Rattle.rules.specs.Run.{command_bytes};
@@ -12,7 +14,7 @@ use libc::STDERR_FILENO;
 use recording::Block;
 
 // What came of a block's commands: how many were recorded, and why what follows them is refused, 0 where nothing is.
-#[derive(Drop)]
+#[derive(Clone, Copy)]
 struct Filled {
     commands: u64,
     refused: u32,

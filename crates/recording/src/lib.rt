@@ -1,11 +1,13 @@
 // The recording's format: the numbers of its blocks as constants, and their check.
+#![tactic(auto)]
+
 ghost use Rattle.std.specs.Prelude.{◌≡◌, ◌+◌, ◌≤◌, length, take, drop};
 ghost use Rattle.recording.specs.Kind as kind;
 ghost use Rattle.recording.specs.Block.{two_bytes, weighed, check_of};
 
 use command::wide;
 
-#[derive(Drop)]
+#[derive(Clone, Copy)]
 pub struct Block {}
 
 impl Block {

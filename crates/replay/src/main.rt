@@ -1,5 +1,7 @@
 // Replays a recording from standard input on a fresh table, piece by piece, so that memory does not grow with the recording, and
 // prints what it reports and who waits then.
+#![tactic(auto)]
+
 ghost use Rattle.std.specs.Prelude.{◌≡◌, ◌+◌, ◌*◌, ◌≤◌, min, length, take};
 ghost use Rattle.table.specs.Kind as table;
 ghost use Rattle.recording.specs.Kind as kind;
@@ -27,7 +29,7 @@ const PIECE: u64 = 64;
 const ARGUMENT: usize = 131072;
 
 // An argument: a decimal number, or something else.
-#[derive(Drop)]
+#[derive(Clone, Copy)]
 enum Given {
     Number(u64),
     Other,

@@ -1,4 +1,6 @@
 // A replay on a ready table: the tests of a block in their order, all of them before any of its commands, and block after block.
+#![tactic(auto)]
+
 ghost use Rattle.std.specs.Prelude.{◌≡◌, ◌+◌, ◌*◌, ◌≤◌, min, length, take, drop};
 ghost use Rattle.std.proofs.Math.Seq.{slice};
 ghost use Rattle.rules.specs.Spread.{IsSpread};

@@ -1,4 +1,6 @@
 // What the programs read and print with, and how they compare words.
+#![tactic(auto)]
+
 ghost use Rattle.std.specs.Prelude.{◌≡◌, ◌≤◌, length};
 ghost use Rattle.io.specs.Counts.{IsPrefixLen};
 ghost use Rattle.table.specs.Regions.{altered};
@@ -126,7 +128,7 @@ pub fn narrow(n: u64) -> u32 {
 }
 
 // A number, and where it ends.
-#[derive(Drop)]
+#[derive(Clone, Copy)]
 pub struct Token {
     pub number: u64,
     pub end: usize,

@@ -1,4 +1,6 @@
 // A run of commands on a ready table: the stop rule's tests in their order, and how many commands came to what.
+#![tactic(auto)]
+
 ghost use Rattle.std.specs.Prelude.{◌≡◌, ◌≤◌};
 ghost use Rattle.rules.specs.Spread.{IsSpread};
 ghost use Rattle.rules.specs.Picture.{limits_of, plain};
@@ -15,7 +17,7 @@ use answers::{Choice, Left, Report};
 use command::Command;
 
 // What a command came to: the place of its count among the six.
-#[derive(Drop)]
+#[derive(Clone, Copy)]
 struct Case {}
 
 impl Case {

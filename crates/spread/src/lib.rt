@@ -1,4 +1,6 @@
 // The spread table, and the bucket of an id.
+#![tactic(auto)]
+
 ghost use Rattle.std.specs.Prelude.{◌≡◌, ◌+◌, ◌*◌, ◌≤◌, ◌<◌};
 ghost use Rattle.table.specs.Kind as kind;
 ghost use Rattle.rules.specs.Spread.{spread_at, bucket, IsSpread};

@@ -1,4 +1,6 @@
 // Arrive, slide and serve on a ready table: the clients' order and the window, one after the other. A request joins; or one of several leaves, or a client's only one.
+#![tactic(auto)]
+
 ghost use Rattle.std.specs.Prelude.{true, ◌≡◌, ◌≤◌, length};
 ghost use Rattle.table.specs.Regions.{regions};
 ghost use Rattle.table.specs.Owners.{order_words};

@@ -1,11 +1,13 @@
 // The linked table's kind, and its words by row and field: no other crate works out where a word stands.
 // The functions on a table rest on its size (`Sized`), which the calls offered outside have tested.
+#![tactic(auto)]
+
 ghost use Rattle.std.specs.Prelude.{◌≡◌, ◌<◌, ◌≤◌, get_or};
 ghost use Rattle.table.specs.Kind as kind;
 ghost use Rattle.table.specs.Regions.{Sized, Writes, item_word, client_word, count_word, bucket_word, ticket_word, set_header, set_item, set_client, set_count, set_bucket, set_ticket};
 
 // The table whose requests and clients are linked both ways.
-#[derive(Drop)]
+#[derive(Clone, Copy)]
 pub struct LinkedTable {}
 
 // A ticket, as an item row holds it.

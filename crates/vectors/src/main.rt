@@ -1,4 +1,6 @@
 // Carries out the commands of the vectors, and prints each line of them as the calls have it: the reply, and every word of the table. Then the same of the replays.
+#![tactic(auto)]
+
 mod evening;
 mod reply;
 

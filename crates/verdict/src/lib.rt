@@ -1,5 +1,7 @@
 // The verdict on lent words: the tests in document 01's order, the last of them put together from the layers' parts of the soundness check.
 // It asks nothing of the words.
+#![tactic(auto)]
+
 ghost use Rattle.std.specs.Prelude.{◌≡◌, ◌+◌, ◌≤◌, ◌<◌, get_or};
 ghost use Rattle.table.specs.Kind as kind;
 ghost use Rattle.table.specs.Regions.{Sized};

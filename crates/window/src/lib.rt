@@ -1,5 +1,7 @@
 // The waiting items: the window, each client's own items, the free item rows.
 // The functions rest on a table that shows them (`Shown`), as every sound table does, and on a caller who knows how many items the client has: nobody reads the own links to find out.
+#![tactic(auto)]
+
 ghost use Rattle.std.specs.Prelude.{◌≡◌, ◌<◌, ◌≤◌, get_or};
 ghost use Rattle.table.specs.Kind as kind;
 ghost use Rattle.table.specs.Regions.{Sized, Writes, item_word, client_word};
