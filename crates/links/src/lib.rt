@@ -56,7 +56,7 @@ fn put_link(t: &mut [u32], p: Places, f: usize, end: usize, e: u32, v: u32)
 fn turn(t: &mut [u32], p: Places, e: u32, v: u32, l: u32, w: u32)
     requires ends { Ends (length t.old) p }
     requires reach { Reach (length t.old) p e }
-    requires reach_2 { Reach (length t.old) p l }
+    requires later_reach { Reach (length t.old) p l }
     ensures { t.new ≡ turned p e v l w t.old }
 {
     put_link(t, p, p.on, p.first, e, v);
@@ -68,7 +68,7 @@ fn unlink(t: &mut [u32], p: Places, r: u32)
     requires ends { Ends (length t.old) p }
     requires row { Row (length t.old) p r }
     requires reach { Reach (length t.old) p (back_word p t.old r) }
-    requires reach_2 { Reach (length t.old) p (on_word p t.old r) }
+    requires later_reach { Reach (length t.old) p (on_word p t.old r) }
     ensures { t.new ≡ unlinked p r t.old }
 {
     let e = link_of(t, p, p.back, r);
@@ -81,7 +81,7 @@ fn insert(t: &mut [u32], p: Places, r: u32, e: u32, l: u32)
     requires ends { Ends (length t.old) p }
     requires row { Row (length t.old) p r }
     requires reach { Reach (length t.old) p e }
-    requires reach_2 { Reach (length t.old) p l }
+    requires later_reach { Reach (length t.old) p l }
     ensures { t.new ≡ inserted p r e l t.old }
 {
     set_link(t, p, p.back, r, e);
@@ -93,7 +93,7 @@ fn insert(t: &mut [u32], p: Places, r: u32, e: u32, l: u32)
 fn insert_after(t: &mut [u32], p: Places, r: u32, e: u32)
     requires ends { Ends (length t.old) p }
     requires row { Row (length t.old) p r }
-    requires row_2 { Row (length t.old) p e × (e < kind.none) }
+    requires row_of_e { Row (length t.old) p e × (e < kind.none) }
     requires reach { Reach (length t.old) p (on_word p t.old e) }
     ensures { t.new ≡ inserted p r e (on_word p t.old e) t.old }
 {
@@ -180,9 +180,9 @@ pub fn unlink_item(t: &mut [u32], q: usize, r: u32)
     requires sized { Sized q t.old }
     requires r_lt_q { r < q }
     requires link { Link q (item_word t.old r kind.earlier) }
-    requires link_2 { Link q (item_word t.old r kind.later) }
+    requires later_link { Link q (item_word t.old r kind.later) }
     ensures writes { Writes q t.old t.new (unlink_in the_window r) }
-    ensures sized_2 { Sized q t.new }
+    ensures still_sized { Sized q t.new }
 {
     unlink(t, window(), r);
 }
@@ -193,7 +193,7 @@ pub fn push_item(t: &mut [u32], q: usize, r: u32)
     requires r_lt_q { r < q }
     requires link { Link q (get_or t.old kind.back_at 0) }
     ensures writes { Writes q t.old t.new (push_in the_window r) }
-    ensures sized_2 { Sized q t.new }
+    ensures still_sized { Sized q t.new }
 {
     push(t, window(), r);
 }
@@ -203,9 +203,9 @@ pub fn unlink_client(t: &mut [u32], q: usize, r: u32)
     requires sized { Sized q t.old }
     requires r_lt_q { r < q }
     requires link { Link q (client_word t.old q r kind.lighter) }
-    requires link_2 { Link q (client_word t.old q r kind.heavier) }
+    requires later_link { Link q (client_word t.old q r kind.heavier) }
     ensures writes { Writes q t.old t.new (unlink_in the_order r) }
-    ensures sized_2 { Sized q t.new }
+    ensures still_sized { Sized q t.new }
 {
     unlink(t, order(q), r);
 }
@@ -215,9 +215,9 @@ pub fn insert_client(t: &mut [u32], q: usize, r: u32, e: u32, l: u32)
     requires sized { Sized q t.old }
     requires r_lt_q { r < q }
     requires link { Link q e }
-    requires link_2 { Link q l }
+    requires later_link { Link q l }
     ensures writes { Writes q t.old t.new (insert_in the_order r e l) }
-    ensures sized_2 { Sized q t.new }
+    ensures still_sized { Sized q t.new }
 {
     insert(t, order(q), r, e, l);
 }
@@ -229,7 +229,7 @@ pub fn insert_client_after(t: &mut [u32], q: usize, r: u32, e: u32)
     requires e_lt_q { e < q }
     requires link { Link q (client_word t.old q e kind.heavier) }
     ensures writes { Writes q t.old t.new (λ R. insert_in the_order r e (R.client e kind.heavier) R) }
-    ensures sized_2 { Sized q t.new }
+    ensures still_sized { Sized q t.new }
 {
     insert_after(t, order(q), r, e);
 }
@@ -241,7 +241,7 @@ pub fn insert_client_before(t: &mut [u32], q: usize, r: u32, l: u32)
     requires l_lt_q { l < q }
     requires link { Link q (client_word t.old q l kind.lighter) }
     ensures writes { Writes q t.old t.new (λ R. insert_in the_order r (R.client l kind.lighter) l R) }
-    ensures sized_2 { Sized q t.new }
+    ensures still_sized { Sized q t.new }
 {
     insert_after(t, reversed(order(q)), r, l);
 }
@@ -252,9 +252,9 @@ pub fn unlink_own(t: &mut [u32], q: usize, c: u32, r: u32)
     requires c_lt_q { c < q }
     requires r_lt_q { r < q }
     requires link { Link q (item_word t.old r kind.own_earlier) }
-    requires link_2 { Link q (item_word t.old r kind.own_later) }
+    requires later_link { Link q (item_word t.old r kind.own_later) }
     ensures writes { Writes q t.old t.new (unlink_in (the_own c) r) }
-    ensures sized_2 { Sized q t.new }
+    ensures still_sized { Sized q t.new }
 {
     unlink(t, own(q, c), r);
 }
@@ -265,9 +265,9 @@ pub fn insert_own(t: &mut [u32], q: usize, c: u32, r: u32, e: u32, l: u32)
     requires c_lt_q { c < q }
     requires r_lt_q { r < q }
     requires link { Link q e }
-    requires link_2 { Link q l }
+    requires later_link { Link q l }
     ensures writes { Writes q t.old t.new (insert_in (the_own c) r e l) }
-    ensures sized_2 { Sized q t.new }
+    ensures still_sized { Sized q t.new }
 {
     insert(t, own(q, c), r, e, l);
 }
@@ -290,7 +290,7 @@ pub fn take_item(t: &mut [u32], q: usize) -> u32
     requires free_item_at_bound { get_or t.old kind.free_item_at 0 < q }
     ensures value { result ≡ get_or t.old kind.free_item_at 0 }
     ensures writes { Writes q t.old t.new (take_from free_items) }
-    ensures sized_2 { Sized q t.new }
+    ensures still_sized { Sized q t.new }
 {
     let r = table::header(t, q, LinkedTable::FREE_ITEM_AT);
     let next = table::item(t, q, r, LinkedTable::LATER);
@@ -303,7 +303,7 @@ pub fn free_item(t: &mut [u32], q: usize, r: u32)
     requires sized { Sized q t.old }
     requires r_lt_q { r < q }
     ensures writes { Writes q t.old t.new (free_into free_items r) }
-    ensures sized_2 { Sized q t.new }
+    ensures still_sized { Sized q t.new }
 {
     let first = table::header(t, q, LinkedTable::FREE_ITEM_AT);
     let row = LinkedTable::item_at(r);
@@ -317,7 +317,7 @@ pub fn take_client(t: &mut [u32], q: usize) -> u32
     requires free_client_at_bound { get_or t.old kind.free_client_at 0 < q }
     ensures value { result ≡ get_or t.old kind.free_client_at 0 }
     ensures writes { Writes q t.old t.new (take_from free_clients) }
-    ensures sized_2 { Sized q t.new }
+    ensures still_sized { Sized q t.new }
 {
     let r = table::header(t, q, LinkedTable::FREE_CLIENT_AT);
     let next = table::client(t, q, r, LinkedTable::HEAVIER);

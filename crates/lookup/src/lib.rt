@@ -64,7 +64,7 @@ pub fn enter(t: &mut [u32], q: usize, at: Sought, r: u32)
     requires r_lt_q { r < q }
     requires home { Home q (client_word t.old q r kind.id) at }
     ensures enters { Enters q t.old t.new r }
-    ensures sized_2 { Sized q t.new }
+    ensures still_sized { Sized q t.new }
 {
     let b = at.bucket;
     let first = table::bucket(t, q, b);
@@ -94,7 +94,7 @@ fn set_hook(t: &mut [u32], q: usize, b: usize, e: u32, v: u32)
     requires b_lt_q { b < q }
     requires link { Link q e }
     ensures writes { Writes q t.old t.new (hook b e v) }
-    ensures sized_2 { Sized q t.new }
+    ensures still_sized { Sized q t.new }
 {
     if e == LinkedTable::NONE {
         table::set_bucket(t, q, b, v);
@@ -109,7 +109,7 @@ fn unhook(t: &mut [u32], q: usize, b: usize, e: u32, r: u32)
     requires b_lt_q { (b < q) × (r < q) }
     requires link { Link q e }
     ensures writes { Writes q t.old t.new (leave_at b e r) }
-    ensures sized_2 { Sized q t.new }
+    ensures still_sized { Sized q t.new }
 {
     let n = table::client(t, q, r, LinkedTable::NEXT_IN_BUCKET);
     set_hook(t, q, b, e, n);
@@ -120,9 +120,9 @@ fn unhook(t: &mut [u32], q: usize, b: usize, e: u32, r: u32)
 pub fn leave(t: &mut [u32], q: usize, s: &[u32; 1024], r: u32)
     requires sized { Sized q t.old }
     requires r_lt_q { (r < q) × IsSpread s.now }
-    requires fact { (K : Kept q t.old) × In r K.clients }
+    requires a_client { (K : Kept q t.old) × In r K.clients }
     ensures leaves { Leaves q t.old t.new r }
-    ensures sized_2 { Sized q t.new }
+    ensures still_sized { Sized q t.new }
 {
     let id = table::client(t, q, r, LinkedTable::ID);
     let b = spread::bucket_in(s, id, q);

@@ -20,7 +20,7 @@ fn leave_group(t: &mut [u32], q: usize, r: u32, k: usize)
     requires sized { Sized q t.old }
     requires r_lt_q { (r < q) × (k < q) }
     ensures writes { Writes q t.old t.new (leave_group r k) }
-    ensures sized_2 { Sized q t.new }
+    ensures still_sized { Sized q t.new }
 {
     let a = table::count_end(t, q, k, LinkedTable::LIGHT_END);
     let b = table::count_end(t, q, k, LinkedTable::HEAVY_END);
@@ -50,7 +50,7 @@ fn enter_group(t: &mut [u32], q: usize, r: u32, k: usize)
     requires sized { Sized q t.old }
     requires k_lt_q { k < q }
     ensures writes { Writes q t.old t.new (enter_group r k) }
-    ensures sized_2 { Sized q t.new }
+    ensures still_sized { Sized q t.new }
 {
     let b = or_else(table::count_end(t, q, k, LinkedTable::HEAVY_END), r);
     table::set_count_end(t, q, k, LinkedTable::LIGHT_END, r);
@@ -62,7 +62,7 @@ fn move_after(t: &mut [u32], q: usize, r: u32, e: u32)
     requires sized { Sized q t.old }
     requires drawn { Drawn q t.old (Strung q r e) }
     ensures writes { Writes q t.old t.new (move_after r e) }
-    ensures sized_2 { Sized q t.new }
+    ensures still_sized { Sized q t.new }
 {
     if e != r {
         links::unlink_client(t, q, r);
@@ -74,9 +74,9 @@ fn move_after(t: &mut [u32], q: usize, r: u32, e: u32)
 fn move_before(t: &mut [u32], q: usize, r: u32, l: u32)
     requires sized { Sized q t.old }
     requires drawn { Drawn q t.old (Strung q r l) }
-    requires fact { client_word t.old q l kind.lighter ≡ r → ⊥ }
+    requires not_lighter { client_word t.old q l kind.lighter ≡ r → ⊥ }
     ensures writes { Writes q t.old t.new (move_before r l) }
-    ensures sized_2 { Sized q t.new }
+    ensures still_sized { Sized q t.new }
 {
     if l != r {
         links::unlink_client(t, q, r);
@@ -90,7 +90,7 @@ pub fn raise(t: &mut [u32], q: usize, r: u32, n: u32)
     requires drawn { Drawn q t.old (Listed q r (λ m. m < q)) }
     requires n_value { n ≡ client_word t.old q r kind.count }
     ensures writes { Writes q t.old t.new (raised r) }
-    ensures sized_2 { Sized q t.new }
+    ensures still_sized { Sized q t.new }
 {
     let k = (n - 1) as usize;
     let e = table::count_end(t, q, k, LinkedTable::HEAVY_END);
@@ -117,7 +117,7 @@ pub fn lower(t: &mut [u32], q: usize, r: u32, n: u32)
     requires drawn { Drawn q t.old (Listed q r (λ m. 2 ≤ m)) }
     requires n_value { n ≡ client_word t.old q r kind.count }
     ensures writes { Writes q t.old t.new (lowered r) }
-    ensures sized_2 { Sized q t.new }
+    ensures still_sized { Sized q t.new }
 {
     let k = (n - 2) as usize;
     let l = light_end(t, q, k);
@@ -133,7 +133,7 @@ fn take_row(t: &mut [u32], q: usize, id: u32) -> u32
     requires free_client_at_bound { get_or t.old kind.free_client_at 0 < q }
     ensures value { result ≡ get_or t.old kind.free_client_at 0 }
     ensures writes { Writes q t.old t.new (take_row result id) }
-    ensures sized_2 { Sized q t.new }
+    ensures still_sized { Sized q t.new }
 {
     let r = links::take_client(t, q);
     table::set_client(t, q, r, LinkedTable::ID, id);
@@ -146,7 +146,7 @@ fn put_first(t: &mut [u32], q: usize, r: u32)
     requires r_lt_q { r < q }
     requires link { Link q (get_or t.old kind.lightest_at 0) }
     ensures writes { Writes q t.old t.new (put_in r 1 kind.none) }
-    ensures sized_2 { Sized q t.new }
+    ensures still_sized { Sized q t.new }
 {
     let l = table::header(t, q, LinkedTable::LIGHTEST_AT);
     links::insert_client(t, q, r, LinkedTable::NONE, l);
@@ -159,7 +159,7 @@ fn one_more(t: &mut [u32], q: usize)
     requires sized { Sized q t.old }
     requires clients_at_bound { get_or t.old kind.clients_at 0 < q }
     ensures writes { Writes q t.old t.new one_more }
-    ensures sized_2 { Sized q t.new }
+    ensures still_sized { Sized q t.new }
 {
     let n = table::header(t, q, LinkedTable::CLIENTS_AT);
     table::set_header(t, q, LinkedTable::CLIENTS_AT, n + 1);
@@ -172,7 +172,7 @@ pub fn admit(t: &mut [u32], q: usize, at: Sought, id: u32) -> u32
     requires drawn { Drawn q t.old (Vacant q) }
     ensures value { result ≡ get_or t.old kind.free_client_at 0 }
     ensures admits { Admits q t.old t.new id result }
-    ensures sized_2 { Sized q t.new }
+    ensures still_sized { Sized q t.new }
 {
     let r = take_row(t, q, id);
     lookup::enter(t, q, at, r);
@@ -186,7 +186,7 @@ fn remove(t: &mut [u32], q: usize, r: u32)
     requires sized { Sized q t.old }
     requires drawn { Drawn q t.old (Listed q r (λ m. Unit {0})) }
     ensures writes { Writes q t.old t.new (take_out r) }
-    ensures sized_2 { Sized q t.new }
+    ensures still_sized { Sized q t.new }
 {
     let n = table::client(t, q, r, LinkedTable::COUNT);
     leave_group(t, q, r, (n - 1) as usize);
@@ -198,7 +198,7 @@ fn clear_row(t: &mut [u32], q: usize, r: u32)
     requires sized { Sized q t.old }
     requires r_lt_q { r < q }
     ensures writes { Writes q t.old t.new (clear_row r) }
-    ensures sized_2 { Sized q t.new }
+    ensures still_sized { Sized q t.new }
 {
     table::set_client(t, q, r, LinkedTable::ID, 0);
     table::set_client(t, q, r, LinkedTable::COUNT, 0);
@@ -210,7 +210,7 @@ fn free_row(t: &mut [u32], q: usize, r: u32)
     requires sized { Sized q t.old }
     requires r_lt_q { r < q }
     ensures writes { Writes q t.old t.new (free_row r) }
-    ensures sized_2 { Sized q t.new }
+    ensures still_sized { Sized q t.new }
 {
     let first = table::header(t, q, LinkedTable::FREE_CLIENT_AT);
     clear_row(t, q, r);
@@ -223,7 +223,7 @@ fn one_less(t: &mut [u32], q: usize)
     requires sized { Sized q t.old }
     requires bound { 1 ≤ get_or t.old kind.clients_at 0 }
     ensures writes { Writes q t.old t.new one_less }
-    ensures sized_2 { Sized q t.new }
+    ensures still_sized { Sized q t.new }
 {
     let n = table::header(t, q, LinkedTable::CLIENTS_AT);
     table::set_header(t, q, LinkedTable::CLIENTS_AT, n - 1);
@@ -234,9 +234,9 @@ pub fn dismiss(t: &mut [u32], q: usize, s: &[u32; 1024], r: u32)
     requires sized { Sized q t.old }
     requires spread { IsSpread s.now }
     requires drawn { Drawn q t.old (Listed q r (λ m. Unit {0})) }
-    requires fact { (K : Kept q t.old) × In r K.clients }
+    requires a_client { (K : Kept q t.old) × In r K.clients }
     ensures dismisses { Dismisses q t.old t.new r }
-    ensures sized_2 { Sized q t.new }
+    ensures still_sized { Sized q t.new }
 {
     lookup::leave(t, q, s, r);
     remove(t, q, r);

@@ -58,7 +58,7 @@ fn join(t: &mut [u32], q: usize, at: Sought, n: u32, id: u32, ticket: Ticket)
 // The request in item row r, which is one of the client's in row c.
 fn request_in(t: &[u32], q: usize, c: u32, r: u32) -> Request
     requires ready { Ready q t.now }
-    requires fact { In r (item_rows (picture t.now)) × ((item_in r (picture t.now).window).client ≡ c) }
+    requires waits { In r (item_rows (picture t.now)) × ((item_in r (picture t.now).window).client ≡ c) }
     ensures { result ≡ as_struct (request_of (picture t.now).clients (item_in r (picture t.now).window)) }
 {
     let id = table::client(t, q, c, LinkedTable::ID);
@@ -69,7 +69,7 @@ fn request_in(t: &[u32], q: usize, c: u32, r: u32) -> Request
 // The request in item row r leaves, one of several, n, of the client in row c, which stays; it is the reply.
 fn leave_one(t: &mut [u32], q: usize, c: u32, n: u32, r: u32) -> Request
     requires ready { Ready q t.old }
-    requires fact { In r (item_rows (picture t.old)) × ((item_in r (picture t.old).window).client ≡ c) }
+    requires waits { In r (item_rows (picture t.old)) × ((item_in r (picture t.old).window).client ≡ c) }
     requires n_value { (n ≡ count_of (picture t.old).window c) × (2 ≤ n) }
     ensures value { result ≡ as_struct (request_of (picture t.old).clients (item_in r (picture t.old).window)) }
     ensures t_after { t.new ≡ draw (steps.leave (picture t.old) (item_in r (picture t.old).window)) }
@@ -84,7 +84,7 @@ fn leave_one(t: &mut [u32], q: usize, c: u32, n: u32, r: u32) -> Request
 fn leave_only(t: &mut [u32], q: usize, s: &[u32; 1024], c: u32, r: u32) -> Request
     requires ready { Ready q t.old }
     requires spread { IsSpread s.now }
-    requires fact { In r (item_rows (picture t.old)) × ((item_in r (picture t.old).window).client ≡ c) }
+    requires waits { In r (item_rows (picture t.old)) × ((item_in r (picture t.old).window).client ≡ c) }
     requires c_value { count_of (picture t.old).window c ≡ 1 }
     ensures value { result ≡ as_struct (request_of (picture t.old).clients (item_in r (picture t.old).window)) }
     ensures t_after { t.new ≡ draw (steps.leave (picture t.old) (item_in r (picture t.old).window)) }

@@ -151,7 +151,7 @@ pub fn set_header(t: &mut [u32], q: usize, f: usize, v: u32)
     requires sized { Sized q t.old }
     requires f_lt_header_words { f < kind.header_words }
     ensures writes { Writes q t.old t.new (set_header f v) }
-    ensures sized_2 { Sized q t.new }
+    ensures still_sized { Sized q t.new }
 {
     t[f] = v;
 }
@@ -169,7 +169,7 @@ pub fn set_item(t: &mut [u32], q: usize, r: u32, f: usize, v: u32)
     requires sized { Sized q t.old }
     requires r_lt_q { (r < q) × (f < kind.item_words) }
     ensures writes { Writes q t.old t.new (set_item r f v) }
-    ensures sized_2 { Sized q t.new }
+    ensures still_sized { Sized q t.new }
 {
     t[LinkedTable::HEADER_WORDS + LinkedTable::ITEM_WORDS * (r as usize) + f] = v;
 }
@@ -187,7 +187,7 @@ pub fn set_ticket(t: &mut [u32], q: usize, r: u32, v: Ticket)
     requires sized { Sized q t.old }
     requires r_lt_q { r < q }
     ensures writes { Writes q t.old t.new (set_ticket r v) }
-    ensures sized_2 { Sized q t.new }
+    ensures still_sized { Sized q t.new }
 {
     set_item(t, q, r, LinkedTable::TICKET, v);
 }
@@ -208,7 +208,7 @@ pub fn set_client(t: &mut [u32], q: usize, r: u32, f: usize, v: u32)
     requires sized { Sized q t.old }
     requires r_lt_q { (r < q) × (f < kind.client_words) }
     ensures writes { Writes q t.old t.new (set_client r f v) }
-    ensures sized_2 { Sized q t.new }
+    ensures still_sized { Sized q t.new }
 {
     t[LinkedTable::HEADER_WORDS
         + LinkedTable::ITEM_WORDS * q
@@ -229,7 +229,7 @@ pub fn set_count_end(t: &mut [u32], q: usize, k: usize, f: usize, v: u32)
     requires sized { Sized q t.old }
     requires k_lt_q { (k < q) × (f < kind.count_words) }
     ensures writes { Writes q t.old t.new (set_count k f v) }
-    ensures sized_2 { Sized q t.new }
+    ensures still_sized { Sized q t.new }
 {
     t[LinkedTable::HEADER_WORDS + LinkedTable::TO_COUNTS * q + LinkedTable::COUNT_WORDS * k + f] =
         v;
@@ -248,7 +248,7 @@ pub fn set_bucket(t: &mut [u32], q: usize, b: usize, v: u32)
     requires sized { Sized q t.old }
     requires b_lt_q { b < q }
     ensures writes { Writes q t.old t.new (set_bucket b v) }
-    ensures sized_2 { Sized q t.new }
+    ensures still_sized { Sized q t.new }
 {
     t[LinkedTable::HEADER_WORDS + LinkedTable::TO_BUCKETS * q + b] = v;
 }

@@ -16,9 +16,9 @@ fn enter_item(t: &mut [u32], q: usize, r: u32, c: u32, ticket: Ticket, e: u32)
     requires sized { Sized q t.old }
     requires r_lt_q { (r < q) × (c < q) }
     requires link { Link q e }
-    requires link_2 { Link q (get_or t.old kind.back_at 0) }
+    requires back_link { Link q (get_or t.old kind.back_at 0) }
     ensures writes { Writes q t.old t.new (enter_item r c ticket e) }
-    ensures sized_2 { Sized q t.new }
+    ensures still_sized { Sized q t.new }
 {
     links::push_item(t, q, r);
     links::insert_own(t, q, c, r, e, LinkedTable::NONE);
@@ -33,7 +33,7 @@ fn leave_window(t: &mut [u32], q: usize, r: u32)
     requires link { Link q (item_word t.old r kind.earlier) × Link q (item_word t.old r kind.later) }
     requires bound { 1 ≤ get_or t.old kind.requests_at 0 }
     ensures writes { Writes q t.old t.new (leave_window r) }
-    ensures sized_2 { Sized q t.new }
+    ensures still_sized { Sized q t.new }
 {
     let n = table::header(t, q, LinkedTable::REQUESTS_AT);
     links::unlink_item(t, q, r);
@@ -47,7 +47,7 @@ pub fn join(t: &mut [u32], q: usize, c: u32, ticket: Ticket, e: u32)
     requires c_lt_q { c < q }
     requires room { Room q t.old c e }
     ensures writes { Writes q t.old t.new (joined c ticket e) }
-    ensures sized_2 { Sized q t.new }
+    ensures still_sized { Sized q t.new }
 {
     let n = table::header(t, q, LinkedTable::REQUESTS_AT);
     let r = links::take_item(t, q);
@@ -60,7 +60,7 @@ pub fn leave_only(t: &mut [u32], q: usize, c: u32, r: u32)
     requires sized { Sized q t.old }
     requires item_of { ItemOf q t.old c r (λ n. n ≡ 1) }
     ensures writes { Writes q t.old t.new (left r) }
-    ensures sized_2 { Sized q t.new }
+    ensures still_sized { Sized q t.new }
 {
     table::set_client(t, q, c, LinkedTable::OLDEST, 0);
     table::set_client(t, q, c, LinkedTable::NEWEST, 0);
@@ -72,7 +72,7 @@ pub fn leave_one(t: &mut [u32], q: usize, c: u32, r: u32)
     requires sized { Sized q t.old }
     requires item_of { ItemOf q t.old c r (λ n. 2 ≤ n) }
     ensures writes { Writes q t.old t.new (left r) }
-    ensures sized_2 { Sized q t.new }
+    ensures still_sized { Sized q t.new }
 {
     links::unlink_own(t, q, c, r);
     leave_window(t, q, r);

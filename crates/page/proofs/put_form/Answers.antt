@@ -1,0 +1,34 @@
+-- The first j bytes of the form are put, with the first k numbers. Assumes nothing.
+use mathlib.Core.Logic.{⊎_elim}
+use Prim.Native.Nat.{◌-◌}
+use native.Mathlib.Omega.{arith}
+use borrow.Author.Rules.{rules}
+use lib.ListN.{length}
+use Rattle.page.proofs.Put.{put_length}
+use Rattle.page.proofs.Begun.{begin}
+use Rattle.page.proofs.Form.{mark_room, mark_turn, byte_room, byte_turn, filling_end}
+use Rattle.page.proofs.put_form.Goals as goal
+
+pub loop-j-init : goal.loop-j-init
+loop-j-init c = search (begin, rules)
+
+pub put_number-i-requires : goal.put_number-i-requires
+put_number-i-requires c =
+    rw c.nth.ensures (mark_room c.loop-j.invariant c.loop-j-test.true c.if-form-j-eq35.true)
+
+pub bounds-out-i : goal.bounds-out-i
+bounds-out-i c =
+    omega (arith, byte_room c.loop-j.invariant c.loop-j-test.true c.if-form-j-eq35.false)
+
+pub loop-j-preserved : goal.loop-j-preserved
+loop-j-preserved c =
+    ⊎_elim
+    (λ w. rw (w.6, w.7, w.8) (mark_turn c.loop-j.invariant c.loop-j-test.true w.0.taken (rw w.2.ensures at w.3.ensures)))
+    (λ w. rw (w.2, w.3, w.4) (byte_turn c.loop-j.invariant c.loop-j-test.true w.0.left))
+    c.if-form-j-eq35.branch
+
+pub shape_of-out : goal.shape_of-out
+shape_of-out c = put_length c.loop-j.invariant.begun.put
+
+pub returns : goal.returns
+returns c = filling_end c.loop-j.invariant c.loop-j-test.false
