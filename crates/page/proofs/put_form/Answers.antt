@@ -1,5 +1,4 @@
 -- The first j bytes of the form are put, with the first k numbers. Assumes nothing.
-use mathlib.Core.Logic.{⊎_elim}
 use Prim.Native.Nat.{◌-◌}
 use native.Mathlib.Omega.{arith}
 use borrow.Author.Rules.{rules}
@@ -8,6 +7,7 @@ use Rattle.page.proofs.Put.{put_length}
 use Rattle.page.proofs.Begun.{begin}
 use Rattle.page.proofs.Form.{mark_room, mark_turn, byte_room, byte_turn, filling_end}
 use Rattle.page.proofs.put_form.Goals as goal
+use Rattle.page.proofs.put_form.Goals.{then-form-j-eq35, else-form-j-eq35}
 
 pub loop-j-init : goal.loop-j-init
 loop-j-init c = search (begin, rules)
@@ -22,10 +22,10 @@ bounds-out-i c =
 
 pub loop-j-preserved : goal.loop-j-preserved
 loop-j-preserved c =
-    ⊎_elim
-    (λ w. rw (w.6, w.7, w.8) (mark_turn c.loop-j.invariant c.loop-j-test.true w.0.taken (rw w.2.ensures at w.3.ensures)))
-    (λ w. rw (w.2, w.3, w.4) (byte_turn c.loop-j.invariant c.loop-j-test.true w.0.left))
-    c.if-form-j-eq35.branch
+    elim c.if-form-j-eq35.branch [
+      then-form-j-eq35 w ↦ rw (w.out-is, w.i-is, w.k-is) (mark_turn c.loop-j.invariant c.loop-j-test.true w.if-form-j-eq35.true (rw w.nth.ensures at w.put_number-i.ensures))
+    | else-form-j-eq35 w ↦ rw (w.out-is, w.i-is, w.k-is) (byte_turn c.loop-j.invariant c.loop-j-test.true w.if-form-j-eq35.false)
+    ]
 
 pub shape_of-out : goal.shape_of-out
 shape_of-out c = put_length c.loop-j.invariant.begun.put
