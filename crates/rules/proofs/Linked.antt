@@ -1,6 +1,6 @@
 -- Laws of linked rows: the ends, the columns that a list fixes, that links both ways meet no row twice, and a chain in another column.
 use mathlib.Core.List.{List, [], ◌∷◌}
-use mathlib.Core.Path.{◌≡◌, refl, sym, ap, ◌∙◌}
+use mathlib.Core.Path.{◌≡◌, refl, sym, ap, ◌∙◌, subst}
 use mathlib.Core.Logic.{⊎_elim, inl, inr}
 use Prim.Native.Nat.{ℕ, ◌≤◌}
 use Rattle.table.specs.Kind as kind
@@ -39,7 +39,7 @@ module _ (b o : ℕ → ℕ) where
   pub run_distinct : (p h : ℕ) (xs : List ℕ) (n l : ℕ) → NotIn p xs → Run b o p h xs n l → Distinct xs
   run_distinct p h [] n l f r = tt
   run_distinct p h (x ∷ xs) n l f r =
-      let apart : NotIn x xs = notin x xs (λ i. not_both p (x ∷ xs) (rw r.1 at (run_back x (o x) xs n l x r.2 i)) f) in
+      let apart : NotIn x xs = notin x xs (λ i. not_both p (x ∷ xs) (subst (λ (y : ℕ). In y (x ∷ xs)) r.1 (run_back x (o x) xs n l x r.2 i)) f) in
       (apart, run_distinct x (o x) xs n l apart r.2)
 
 pub run_linked : (q : ℕ) (L : Links) (xs : List ℕ) → q ≤ kind.none → Run L.back L.on kind.none L.first xs kind.none L.last → Below q xs → Linked q L xs

@@ -1,7 +1,7 @@
 -- A request joins and a request leaves: the picture stays right and of its size, and forgets to the plain history's step.
 use mathlib.Core.List.{List, [], ◌∷◌, ◌++◌, map}
 use mathlib.Core.Bool.{Bool, true, false, cond}
-use mathlib.Core.Path.{◌≡◌, refl, sym, ap, ap₂, ◌∙◌}
+use mathlib.Core.Path.{◌≡◌, refl, sym, ap, ap₂, ◌∙◌, subst}
 use mathlib.Core.Logic.{inl, inr}
 use Prim.Native.Nat.{ℕ, ◌≤◌}
 use native.Mathlib.Omega.{arith}
@@ -83,6 +83,10 @@ join_near P {c} {xs} ticket n h =
     let window = map_snoc (request_of P.clients) P.window i ∙ ap (λ (z : ℕ). (plain P).window ++ (request z ticket ∷ [])) name in
     step_so (ap (λ (l : List Request). changed c.id l (plain P)) window) (rw some (rw some at s))
 
+-- the row of a client that was just let in
+admitted_row : (P : Picture) (id : ℕ) → row_of (admit id P).clients id ≡ head_or kind.none P.free_clients
+admitted_row P id = rw (eq-eqb id id refl)
+
 pub join_step : (P : Picture) (id ticket : ℕ) → Right P → 1 ≤ length P.free_items → Step (limits_of P) (history.join (plain P) (request id ticket)) (join P id ticket)
 unfolding join
 join_step P id ticket v h = go (known id P) refl
@@ -95,7 +99,8 @@ join_step P id ticket v h = go (known id P) refl
         join_near P ticket (near P v (rw c at f.put)) h
     go false e =
         let n = has_not id (map client_id P.clients) e in
-        rw (eq-eqb id id refl) (step_so (new_plain P id v n (room P v h) ticket) (join_near (admit id P) ticket (near_new P id v n (room P v h)) h))
+        subst (λ (r : ℕ). Step (limits_of P) (history.join (plain P) (request id ticket)) (join_as (client r id) ticket (admit id P)))
+        (sym (admitted_row P id)) (step_so (new_plain P id v n (room P v h) ticket) (join_near (admit id P) ticket (near_new P id v n (room P v h)) h))
 
 -- the client that joins by its row: one that waits, or a new one
 module _ (P : Picture) (id ticket : ℕ) where
@@ -114,7 +119,7 @@ module _ (P : Picture) (id ticket : ℕ) where
       go : (b : Bool) → known id P ≡ b
           → join_as (client (row_of (cond b P (admit id P)).clients id) id) ticket (cond b P (admit id P)) ≡ join_as (client (head_or kind.none P.free_clients) id) ticket (admit id P)
       go true e = absurd (not_both id (map client_id P.clients) ((has_decides id (map client_id P.clients)).0 e) n)
-      go false e = rw (eq-eqb id id refl)
+      go false e = ap (λ (r : ℕ). join_as (client r id) ticket (admit id P)) (admitted_row P id)
 
 -- a request leaves, and its row is the first free one
 pub leave_frees : (P : Picture) (i : Item) → (leave P i).free_items ≡ i.row ∷ P.free_items

@@ -111,8 +111,8 @@ pub rising_less : (m n : ℕ) (xs : List ℕ) → m ≤ n → Rising n xs → Ri
 rising_less m n [] h u = tt
 rising_less m n (x ∷ xs) h u = (omega (arith, u.0), u.1)
 
-pub take_rising : (m : ℕ) {r : ℕ} {xs ys : List ℕ} → Put r xs ys → Rising m ys → Rising m xs
-take_rising m {r} {xs} here u = rising_less m r xs u.0 u.1
+pub take_rising : {r : ℕ} (m : ℕ) {xs ys : List ℕ} → Put r xs ys → Rising m ys → Rising m xs
+take_rising {r} m {xs} here u = rising_less m r xs u.0 u.1
 take_rising m (there {x = x} p) u = (u.0, take_rising x p u.1)
 
 -- taken out by its key: `drop` is any function that leaves out the first of c's key
