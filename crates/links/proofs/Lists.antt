@@ -1,6 +1,6 @@
 -- Unlinking and inserting over any two columns: a list is a ring through none, so no neighbour is a case of its own.
 use mathlib.Core.List.{List, [], ◌∷◌, ◌++◌, append-nil}
-use mathlib.Core.Path.{◌≡◌, refl, sym, ap, ◌∙◌}
+use mathlib.Core.Path.{◌≡◌, refl, sym, ap, ◌∙◌, subst}
 use mathlib.Core.Logic.{⊎_elim, inl, inr}
 use Prim.Native.Nat.{ℕ, ◌≤◌, ◌<◌}
 use native.Mathlib.Omega.{arith}
@@ -208,7 +208,7 @@ run_on : (b o : ℕ → ℕ) (p h : ℕ) (xs : List ℕ) (n l r : ℕ) → Run b
 run_on b o p h [] n l r k i = absurd i
 run_on b o p h (x ∷ xs) n l r k i =
     let head : r ≡ x → o r ≡ head_or n xs = λ e. ap o e ∙ run_head b o x (o x) xs n l k.2 in
-    let next : In (o r) (n ∷ xs) = ⊎_elim (λ e. rw (head e) (head_in n xs)) (λ j. run_on b o x (o x) xs n l r k.2 j) i in
+    let next : In (o r) (n ∷ xs) = ⊎_elim (λ e. subst (λ (y : ℕ). In y (n ∷ xs)) (sym (head e)) (head_in n xs)) (λ j. run_on b o x (o x) xs n l r k.2 j) i in
     ⊎_elim (λ e. inl e) (λ j. inr (inr j)) next
 
 module _ {q : ℕ} {L : Links} {rs : List ℕ} (k : Linked q L rs) where
@@ -220,8 +220,8 @@ module _ {q : ℕ} {L : Links} {rs : List ℕ} (k : Linked q L rs) where
 
   pub ends : In L.first (kind.none ∷ rs) × In L.last (kind.none ∷ rs)
   ends = (
-    rw (run_head L.back L.on kind.none L.first rs kind.none L.last k.run) (head_in kind.none rs),
-    rw (run_last L.back L.on kind.none L.first rs kind.none L.last k.run) (last_in kind.none rs),
+    subst (λ (y : ℕ). In y (kind.none ∷ rs)) (sym (run_head L.back L.on kind.none L.first rs kind.none L.last k.run)) (head_in kind.none rs),
+    subst (λ (y : ℕ). In y (kind.none ∷ rs)) (sym (run_last L.back L.on kind.none L.first rs kind.none L.last k.run)) (last_in kind.none rs),
   )
 
   -- and so can be followed

@@ -1,10 +1,10 @@
--- Laws of answers: one that is true, one that is false, a comparison, an answer on what comes to the same, and what a negated test of one tells.
-use mathlib.Core.Bool.{Bool, true, false, not}
+-- Laws of answers: one that is true, one that is false, a comparison, an answer on what comes to the same, and what one rules out or tells.
+use mathlib.Core.Bool.{Bool, true, false}
 use mathlib.Core.Path.{◌≡◌, refl, sym, ◌∙◌}
 use mathlib.Core.Logic.{◌↔◌}
 use Prim.Native.Nat.{ℕ}
 use lib.Dec.{eqb}
-use borrow.Author.Tests.{eqb-true, eq-eqb, not-true, not-false}
+use borrow.Author.Tests.{eqb-true, eq-eqb}
 use Rattle.rules.specs.Tells.{Tells}
 use Rattle.rules.proofs.Decide.{no_true}
 
@@ -22,8 +22,8 @@ pub tells_so : {ok : Bool} {P Q : Type 0} → P ↔ Q → Tells ok P → Tells o
 tells_so s a = record { right = λ e. s.0 (a.right e); passes = λ q. a.passes (s.1 q) }
 
 -- what an answer that is not true rules out, and what one that is tells
-pub refuted : {ok : Bool} {P : Type 0} → Tells ok P → not ok ≡ true → P → ⊥
-refuted {ok} a e p = no_true (sym (not-true ok e) ∙ a.passes p)
+pub refuted : {ok : Bool} {P : Type 0} → Tells ok P → ok ≡ false → P → ⊥
+refuted a e p = no_true (sym e ∙ a.passes p)
 
-pub told : {ok : Bool} {P : Type 0} → Tells ok P → not ok ≡ false → P
-told {ok} a e = a.right (not-false ok e)
+pub told : {ok : Bool} {P : Type 0} → Tells ok P → ok ≡ true → P
+told a e = a.right e

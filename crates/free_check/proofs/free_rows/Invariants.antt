@@ -1,0 +1,11 @@
+-- Before each turn what is left to show of the chain is what was to be shown at first.
+use mathlib.Core.Logic.Iff
+use mathlib.Core.Logic.{◌↔◌}
+use Rattle.free_check.specs.Free.{words_of, Free}
+use Rattle.free_check.proofs.free_rows.Given as goal
+
+abbrev pub invariant-loop-rest : goal.invariant-loop-rest
+invariant-loop-rest l = Free l.q l.width l.link (words_of l.from l.width l.t) l.at l.rest ↔ Free l.q l.width l.link (words_of l.from l.width l.t) l.first l.n
+
+abbrev pub decreases-loop-rest : goal.decreases-loop-rest
+decreases-loop-rest l = l.rest

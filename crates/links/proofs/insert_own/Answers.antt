@@ -1,0 +1,9 @@
+-- The one code, by the lens of the client's own items. Assumes nothing.
+use Rattle.links.proofs.Strands.{own_lens, insert_asks, insert_does}
+use Rattle.links.proofs.insert_own.Goals as goal
+
+pub insert-requires : goal.insert-requires
+insert-requires c = let k = insert_asks (own_lens _ c.requires.sized.small _) c.requires.c_lt_q c.own.ensures _ _ _ (c.requires.sized, (c.requires.r_lt_q, (c.requires.link, c.requires.later_link))) in record { ends = k.0; row = k.1.0; reach = k.1.1.0; later_reach = k.1.1.1 }
+
+pub returns : goal.returns
+returns c = let k = insert_does (own_lens _ c.requires.sized.small _) c.requires.c_lt_q c.own.ensures _ _ _ (c.requires.sized, (c.requires.r_lt_q, (c.requires.link, c.requires.later_link))) c.insert.ensures in record { writes = k.0; still_sized = k.1 }

@@ -1,0 +1,5 @@
+-- The places as the strand has them. Assumes nothing.
+use Rattle.links.proofs.order.Goals as goal
+
+pub returns : goal.returns
+returns c = cc
