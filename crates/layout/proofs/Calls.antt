@@ -6,10 +6,9 @@ use mathlib.Core.Path.{◌≡◌, ap, ◌∙◌}
 use mathlib.Mathlib.Data.Bool.Basic.{dichotomy}
 use Prim.Native.Nat.{ℕ, ◌+◌, ◌-◌, ◌≤◌, ◌<◌}
 use native.Mathlib.Omega.{arith}
-use lib.Dec.{ltb}
 use lib.ListN.{length, take, drop}
 use lib.Seq.{length-take-le}
-use borrow.Author.Tests.{lt-ltb, le-ltb, le-leb, lt-leb, leb-true, ltb-true}
+use borrow.Author.Tests.{lt-ltb, le-ltb, le-leb, lt-leb, leb-true}
 use borrow.Rule.Slice.Shared.{by_size}
 use Rattle.table.specs.Kind as kind
 use Rattle.table.specs.Regions.{Sized}
@@ -48,8 +47,8 @@ module _ (len start q : ℕ) where
   pub no_room : kind.in_range q ≡ true → len < start + kind.size q → fitting len start q ≡ false
   no_room r h = rw (r, lt-leb (start + kind.size q) len h)
 
-  pub beyond : kind.in_range q ≡ true → ltb len start ≡ true → fitting len start q ≡ false
-  beyond r h = no_room r (omega (arith, ltb-true len start h))
+  pub beyond : kind.in_range q ≡ true → len < start → fitting len start q ≡ false
+  beyond r h = no_room r (omega arith)
 
   pub part : kind.in_range q ≡ true → (need : ℕ) → need ≡ kind.size q → start + need ≤ len → record { from = start; to = start + need } ≡ part_of len start q
   unfolding part_of
