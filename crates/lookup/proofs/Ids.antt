@@ -1,6 +1,6 @@
 -- Whether the rows of a chain have ids of their own: a short chain through its links, a long one side by side.
 use mathlib.Core.List.{List, [], ◌∷◌, ◌++◌, map, append_assoc, append-nil}
-use mathlib.Core.Bool.{Bool, true, false, not}
+use mathlib.Core.Bool.{Bool, true, false}
 use mathlib.Core.Path.{◌≡◌, refl, sym, ◌∙◌}
 use mathlib.Core.Logic.{◌↔◌}
 use Prim.Native.Nat.{ℕ, ◌+◌, ◌≤◌, ◌<◌}
@@ -125,10 +125,10 @@ module _ {q : ℕ} {t ids : List ℕ} {first n at : ℕ} (z : Sized q t) (m : Co
       here : take n ids ++ v ∷ map (id_of q t) (from q t (next_of q t at)) ≡ map (id_of q t) (from q t first)
       here = rw is (rw (step z m.ends d).is at m.all)
 
-      pub copies_twin : not ok ≡ true → Tells false (OwnIds q t first)
+      pub copies_twin : ok ≡ false → Tells false (OwnIds q t first)
       copies_twin e = tells_no (λ u. refuted f e (meets v (take n ids) (map (id_of q t) (from q t (next_of q t at))) (rw here u)))
 
-      pub copies_next : not ok ≡ false → {to : ℕ} → to ≡ client_word t q at kind.next_in_bucket → Copies q t first (set ids n v) (n + 1) to
+      pub copies_next : ok ≡ true → {to : ℕ} → to ≡ client_word t q at kind.next_in_bucket → Copies q t first (set ids n v) (n + 1) to
       copies_next e next =
           let s = step z m.ends d in
           let more : take (n + 1) (set ids n v) ≡ take n ids ++ v ∷ [] = rw (add-one n) (take-suc-set ids n v (omega (arith, copies_low, m.long))) in

@@ -56,7 +56,7 @@ chain_first o h (x ∷ xs) c n = inl c.0
 chain_next : (o : ℕ → ℕ) (h x : ℕ) (xs : List ℕ) → Chain o h xs → In x xs → (o x ≡ kind.none → ⊥) → In (o x) xs
 chain_next o h x [] c i n = absurd i
 chain_next o h x (y ∷ xs) c i n =
-    inr (⊎_elim (λ e. rw e (chain_first o (o y) xs c.1 (rw e at n))) (λ j. chain_next o (o y) x xs c.1 j n) i)
+    inr (⊎_elim (λ e. subst (λ (z : ℕ). In (o z) xs) (sym e) (chain_first o (o y) xs c.1 (λ k. n (ap o e ∙ k)))) (λ j. chain_next o (o y) x xs c.1 j n) i)
 
 path_so : (P Q : ℕ → Type 0) (o : ℕ → ℕ) (h : ℕ) → ((x : ℕ) → P x → Q x) → (k r : ℕ) → Path P o h k r → Path Q o h k r
 path_so P Q o h f zero r p = p

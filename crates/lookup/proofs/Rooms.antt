@@ -1,6 +1,6 @@
 -- The check's loops: the tests of a row, the room that a chain leaves, and the chains one after the other.
 use mathlib.Core.List.{List, []}
-use mathlib.Core.Bool.{Bool, true, false, not}
+use mathlib.Core.Bool.{Bool, true, false}
 use mathlib.Core.Path.{◌≡◌, sym, ap, ◌∙◌}
 use Prim.Native.Nat.{ℕ, suc, ◌+◌, ◌-◌, ◌≤◌, ◌<◌}
 use native.Mathlib.Nat.{zero-add}
@@ -35,7 +35,7 @@ module _ {q : ℕ} {t : List ℕ} {b r : ℕ} where
     fits_home {c = c} h m ex ec =
         tells_equal c b (λ e. record { low = h; counts = λ z. m (is ∙ z); home = ap (bucket q) (sym ex) ∙ sym ec ∙ e }, λ f. ec ∙ ap (bucket q) ex ∙ f.home)
 
-  pub fits_low : {ok : Bool} → Tells ok (Fits q t b r) → not ok ≡ false → r < q
+  pub fits_low : {ok : Bool} → Tells ok (Fits q t b r) → ok ≡ true → r < q
   fits_low f e = (told f e).low
 
 -- room_after: what is left after the rows from `at` on is left after all
@@ -90,7 +90,7 @@ module _ {q : ℕ} {t : List ℕ} {b first room at left : ℕ} (m : Rooms q t b 
     rooms_none e = m.so left (left_none b left z e)
 
     module _ {ok : Bool} (f : Tells ok (Fits q t b at)) where
-      pub rooms_wrong : (at ≡ kind.none → ⊥) → not ok ≡ true → Left q t b first room 0
+      pub rooms_wrong : (at ≡ kind.none → ⊥) → ok ≡ false → Left q t b first room 0
       rooms_wrong n e =
           m.so 0
           (record {
@@ -98,7 +98,7 @@ module _ {q : ℕ} {t : List ℕ} {b first room at left : ℕ} (m : Rooms q t b 
             goes = λ g h. let s = step z g.ends n in absurd (refuted f e (rw s.is at g.fits).0);
           })
 
-      pub rooms_next : not ok ≡ false → (left ≡ 0 → ⊥) → {to : ℕ} → to ≡ client_word t q at kind.next_in_bucket → Rooms q t b first room to (left - 1)
+      pub rooms_next : ok ≡ true → (left ≡ 0 → ⊥) → {to : ℕ} → to ≡ client_word t q at kind.next_in_bucket → Rooms q t b first room to (left - 1)
       rooms_next e l next = rw next (record { so = λ r w. m.so r (left_more b left r z l (told f e) w) })
 
 -- by_buckets: the chains before bucket b are right, and leave that room
@@ -129,10 +129,10 @@ module _ {q : ℕ} {t : List ℕ} {n b room : ℕ} (z : Sized q t) (m : Checks q
     checks_wrong e = checked z (tells_no (λ k. omega (arith, has_room k, (rw is at w).goes (k.good b h).fitting (has_room k))))
 
     module _ {ok : Bool} (f : Tells ok (OwnIds q t first)) where
-      pub checks_ids : not ok ≡ true → Checked q t n false
+      pub checks_ids : ok ≡ false → Checked q t n false
       checks_ids e = checked z (tells_no (λ k. refuted f e (rw is (k.good b h).ids)))
 
-      pub checks_next : (left ≡ 0 → ⊥) → not ok ≡ false → Checks q t n (b + 1) left
+      pub checks_next : (left ≡ 0 → ⊥) → ok ≡ true → Checks q t n (b + 1) left
       checks_next l e =
           let g = (rw is at w).went (omega arith) in
           record {

@@ -99,7 +99,7 @@ module _ {q : ℕ} (R : Regions) {cs : List ℕ} {C : ℕ → List ℕ} (F : Fil
       let old : (v : ℕ) → Chain (at (lookup_words R).next r v) (R.bucket j) (C j) =
       λ v. chain_at (lookup_words R).next r v (R.bucket j) (C j) (notin r (C j) (λ i. not_both r cs (F.only j r h i).0 new)) (F.chained j h) in
       elim (ℕ_discrete j home) [
-        | yes e ↦ rw (eq-eqb j home e) (refl, rw (at_same (lookup_words R).next r (R.bucket home), ← e) (old (R.bucket j)))
+        | yes e ↦ rw (eq-eqb j home e) (refl, rw (at_same (lookup_words R).next r (R.bucket home), ← e) (old (R.bucket home)))
         | no n ↦ rw (ne_eqb j home n) (old (R.bucket home))
       ]
 
