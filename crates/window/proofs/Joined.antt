@@ -58,13 +58,14 @@ module _ (q : ℕ) (hq : q ≤ kind.largest) (R : Regions) (w : List Item) (free
 
   -- the newest of the client before, a row of its own or none
   before : In e (kind.none ∷ own_rows c w)
-  before = rw he (last_in kind.none (own_rows c w))
+  before = subst (λ (y : ℕ). In y (kind.none ∷ own_rows c w)) (sym he) (last_in kind.none (own_rows c w))
 
   -- the free rows that are left are as they were
   free_kept : (x f : ℕ) → In x free → R.item x f ≡ S.item x f
   free_kept x f i =
       let not-r : x ≡ r → ⊥ = λ z. other r x free (distinct_right (map item_row w) (r ∷ free) k.each.distinct).0 i (sym z) in
-      let last : In (R.header kind.back_at) (kind.none ∷ map item_row w) = rw (last_is k.window) (last_in kind.none (map item_row w)) in
+      let last : In (R.header kind.back_at) (kind.none ∷ map item_row w) =
+      subst (λ (y : ℕ). In y (kind.none ∷ map item_row w)) (sym (last_is k.window)) (last_in kind.none (map item_row w)) in
       simp (
         ne_eqb x r not-r,
         ne_eqb x (R.header kind.back_at) (free_apart hq k x _ (inr i) last),
