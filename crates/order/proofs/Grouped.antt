@@ -1,6 +1,6 @@
 -- The order of clients by groups, in the regions: a row taken out of its group, a row put at the lighter end of one, and where they stand.
 use mathlib.Core.List.{List, ◌∷◌, ◌++◌, append_assoc}
-use mathlib.Core.Path.{◌≡◌, refl, ap, ◌∙◌, subst}
+use mathlib.Core.Path.{◌≡◌, refl, sym, ap, ◌∙◌, subst}
 use mathlib.Core.Logic.{⊎_elim, inl, inr}
 use Prim.Native.Nat.{ℕ, suc, ◌-◌, ◌≤◌, ◌<◌}
 use native.Mathlib.Omega.{arith}
@@ -152,7 +152,9 @@ module _ (q : ℕ) (hq : q ≤ kind.largest) (R : Regions) (c : ℕ → ℕ) (g 
 
     pub placed_aside : (x f : ℕ) → (x ≡ r → ⊥) → NotIn x (kind.none ∷ joined g 0 q) → (put_in r n e R).client x f ≡ R.client x f
     placed_aside x f a b =
-        let near-e : In e (kind.none ∷ joined g 0 q) = rw (he, parts g i q hi) (⊎_elim (λ z. inl z) (λ j. inr (in_left _ (joined g 0 i) onto j)) (last_in kind.none (joined g 0 i))) in
-        let near-l : In (after e R) (kind.none ∷ joined g 0 q) = rw (placed_after, parts g i q hi) (⊎_elim (λ z. inl z) (λ j. inr (in_right _ (joined g 0 i) onto j)) (head_in kind.none onto)) in
+        let near-e : In e (kind.none ∷ joined g 0 q) =
+        subst (λ (y : ℕ). In y (kind.none ∷ joined g 0 q)) (sym he) (rw (parts g i q hi) (⊎_elim (λ z. inl z) (λ j. inr (in_left _ (joined g 0 i) onto j)) (last_in kind.none (joined g 0 i)))) in
+        let near-l : In (after e R) (kind.none ∷ joined g 0 q) =
+        subst (λ (y : ℕ). In y (kind.none ∷ joined g 0 q)) (sym placed_after) (rw (parts g i q hi) (⊎_elim (λ z. inl z) (λ j. inr (in_right _ (joined g 0 i) onto j)) (head_in kind.none onto))) in
         let away : (y : ℕ) → In y (kind.none ∷ joined g 0 q) → x ≡ y → ⊥ = λ y j. other x y (kind.none ∷ joined g 0 q) b j in
         simp (ne_eqb x r a, ne_eqb x e (away e near-e), ne_eqb x (after e R) (away (after e R) near-l), cond_same)

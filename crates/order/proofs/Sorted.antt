@@ -108,7 +108,7 @@ module _ (c : ℕ → ℕ) where
   groups_cons x i k xs e = go (eqb k i) refl
     where
       go : (b : Bool) → eqb k i ≡ b → groups (x ∷ xs) k ≡ cond b (x ∷ groups xs i) (groups xs k)
-      go true f = let h = eqb-true k i f in rw (eq-eqb (c x) (suc k) (omega arith), h)
+      go true f = let h = eqb-true k i f in rw (eq-eqb (c x) (suc k) (omega arith)) (ap (λ (n : ℕ). x ∷ groups xs n) h)
       go false f = rw (ne_eqb (c x) (suc k) (λ h. eqb-false k i f (omega arith)))
 
   place_first : (x : ℕ) (xs : List ℕ) → Rising (c x) (map c xs) → place c x xs ≡ x ∷ xs
