@@ -1,15 +1,10 @@
 -- Each return is one case of `record_number`. Assumes nothing.
--- a kind that is at most the last one fits a byte
 use mathlib.Core.Path.{sym, ◌∙◌}
-use borrow.Author.Rules.{rules}
 use Rattle.recorder.proofs.Calls.{no_kind, no_command, no_room, recorded}
 use Rattle.recorder.proofs.record.Goals as goal
 
 pub returns-then-kind : goal.returns-then-kind
 returns-then-kind c = let k = no_kind _ _ _ _ _ c.if-kind.true in record { number = k.0; bytes = k.1 }
-
-pub overflow_cast-c : goal.overflow_cast-c
-overflow_cast-c c = search rules
 
 pub returns-then-not-known : goal.returns-then-not-known
 returns-then-not-known c = let k = no_command _ _ _ _ _ (sym c.known.ensures ∙ c.if-not-known.true) in record { number = k.0; bytes = k.1 }
