@@ -1,12 +1,9 @@
--- A walk that counts down, which tells of the n rows that are left what was asked of all: W. And what the tests of a walk tell.
+-- A walk that counts down, which tells of the n rows that are left what was asked of all: W.
 use mathlib.Core.List.{List, [], ◌∷◌}
-use mathlib.Core.Bool.{true, false, not}
 use mathlib.Core.Path.{◌≡◌, sym, subst}
 use mathlib.Core.Logic.{◌↔◌}
 use Prim.Native.Nat.{ℕ, ◌-◌, ◌≤◌, ◌<◌}
 use native.Mathlib.Omega.{arith}
-use lib.Dec.{eqb}
-use borrow.Author.Tests.{eqb-true, eqb-false, not-true, not-false}
 use Rattle.free_check.specs.Listed.{Listed}
 
 module _ (n : ℕ) (F : List ℕ → Type 0) {W : Type 0} (so : Listed n F ↔ W) where
@@ -30,10 +27,3 @@ module _ (n : ℕ) (F : List ℕ → Type 0) {W : Type 0} (so : Listed n F ↔ W
 -- the row is as it has to be, so the rest is what is left
 pub left_over : {S C W : Type 0} → (S × C) ↔ W → S → C ↔ W
 left_over i s = (λ c. i.0 (s, c), λ w. (i.1 w).1)
-
--- a test of two numbers that is not the first of its `if`
-pub differ : {a b : ℕ} → not (eqb a b) ≡ true → a ≡ b → ⊥
-differ {a} {b} e = eqb-false a b (not-true (eqb a b) e)
-
-pub alike : {a b : ℕ} → not (eqb a b) ≡ false → a ≡ b
-alike {a} {b} e = eqb-true a b (not-false (eqb a b) e)

@@ -1,9 +1,7 @@
 -- The words before f are 0 but the chain's; another that is not 0 shows that the row is not blank.
 use borrow.Author.Count.{below_more}
-use Prim.Native.Nat.{◌-◌}
 use native.Mathlib.Omega.{arith}
 use Rattle.rules.proofs.Tells.{tells_yes, tells_no}
-use Rattle.free_check.proofs.Listed.{alike}
 use Rattle.free_check.proofs.blank.Goals as goal
 use Rattle.free_check.proofs.blank.Goals.{else-f-link-via-then-f-link+else-t-row-ne0, else-f-link-via-else-f-link}
 

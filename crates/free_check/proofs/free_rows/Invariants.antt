@@ -1,5 +1,4 @@
 -- Before each turn what is left to show of the chain is what was to be shown at first.
-use mathlib.Core.Logic.Iff
 use mathlib.Core.Logic.{◌↔◌}
 use Rattle.free_check.specs.Free.{words_of, Free}
 use Rattle.free_check.proofs.free_rows.Given as goal
