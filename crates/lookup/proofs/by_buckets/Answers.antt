@@ -14,7 +14,9 @@ pub overflow_sub-room : goal.overflow_sub-room
 overflow_sub-room c = omega (arith, left_less c.room_after-left.ensures c.if-left-eq0.false)
 
 pub own_ids-requires : goal.own_ids-requires
-own_ids-requires c = let w = c.room_after-left.ensures in record { sized = search rules; ends = left_ends w c.if-left-eq0.false; first_len = left_rows w c.if-left-eq0.false }
+own_ids-requires c =
+    let w = c.room_after-left.ensures in
+    record { sized = search rules; ends = left_ends w c.if-left-eq0.false; first_len = left_rows w c.if-left-eq0.false }
 
 pub returns-then-not-own_ids : goal.returns-then-not-own_ids
 returns-then-not-own_ids c = search (checks_ids, rules)
