@@ -1,6 +1,6 @@
 -- A test that fails shows that the table is not sound; all of them passed show that it is.
 use mathlib.Core.List.{List, ◌∷◌}
-use mathlib.Core.Bool.{Bool, true, false, not}
+use mathlib.Core.Bool.{Bool, true, false}
 use mathlib.Core.Path.{◌≡◌, refl, sym, ap, ap₂, ◌∙◌, subst}
 use Prim.Native.Nat.{ℕ, zero, suc, ◌+◌, ◌-◌, ◌≤◌, ◌<◌}
 use native.Mathlib.Nat.{suc-add}
@@ -56,10 +56,10 @@ module _ {q : ℕ} (t : List ℕ) (size : get_or t kind.places_at 0 ≡ q) where
       subst (λ (n : ℕ). get_or t n 0 ≡ 0) e
       (zeros_each kind.zeros kind.zeros_at (λ n. get_or t n 0) (ap (λ (F : FixedWords). F.zeros) (ready_fixed y)) (f - kind.zeros_at) (omega arith))
 
-  pub zeros_fail : {ok : Bool} → Tells ok (Zeros kind.header_words t) → not ok ≡ true → false ≡ sound t
+  pub zeros_fail : {ok : Bool} → Tells ok (Zeros kind.header_words t) → ok ≡ false → false ≡ sound t
   zeros_fail a e = not_so (sound t) (λ s. refuted a e (zeros_held (sound_ready s)))
 
-  pub clients_fail : {ok : Bool} → order.Checked q t ok → not ok ≡ true → false ≡ sound t
+  pub clients_fail : {ok : Bool} → order.Checked q t ok → ok ≡ false → false ≡ sound t
   clients_fail a e = not_so (sound t) (λ s. refuted a e (ready_clients (sound_ready s)))
 
   module _ (n : ℕ) (number : n ≡ get_or t kind.clients_at 0) where
