@@ -1,4 +1,5 @@
 -- The kind says which command it is, and the step answers what the plain history says of it. Assumes nothing.
+-- the place and the table after a command
 use mathlib.Core.List.{List}
 use mathlib.Core.Path.{◌≡◌, sym, ap, ◌∙◌, subst}
 use Prim.Native.Nat.{ℕ}
@@ -19,10 +20,8 @@ use Rattle.answers.specs.declared.Choice.{Choice}
 use Rattle.answers.specs.declared.Left.{Left}
 use Rattle.run.specs.Seen.{case_of, arrive_case, slide_case, serve_case}
 use Rattle.run.proofs.Seen.{arrive_case_lem, slide_case_lem, serve_case_lem}
-use Rattle.run.proofs.carry_out.Statement.{statement}
-use Rattle.run.proofs.carry_out.Tie as tie
+use Rattle.run.proofs.carry_out.Goals as goal
 
--- the place and the table after a command
 abbrev Done : Picture → ℕ → List ℕ → Command → Type 0
 Done P k u x = (k ≡ case_of (outcome (limits_of P) (plain P) x)) × (u ≡ draw (next P x))
 
@@ -30,51 +29,25 @@ module _ (P : Picture) (c : code.Command) {k : ℕ} {u : List ℕ} where
   is : (x : Command) → as_command c ≡ x → Done P k u x → Done P k u (as_command c)
   is x e h = subst (Done P k u) (sym e) h
 
-  arrive-done : c.kind ≡ 1 → {a : Choice} → a ≡ as_choice (choice (limits_of P) (plain P) c.id) → k ≡ arrive_case a → u ≡ draw (arrived P c.id c.ticket) → Done P k u (as_command c)
-  arrive-done h e f d =
+  arrive_done : c.kind ≡ 1 → {a : Choice} → a ≡ as_choice (choice (limits_of P) (plain P) c.id) → k ≡ arrive_case a → u ≡ draw (arrived P c.id c.ticket) → Done P k u (as_command c)
+  arrive_done h e f d =
       is (arriving (request c.id c.ticket)) (simp (eq-eqb c.kind 1 h)) (f ∙ ap arrive_case e ∙ arrive_case_lem (choice (limits_of P) (plain P) c.id), d)
 
   module _ (other : c.kind ≡ 1 → ⊥) where
-    slide-done : c.kind ≡ 2 → {a : Left} → a ≡ as_left (slide_left (limits_of P) (plain P)) → k ≡ slide_case a → u ≡ draw (slid P c.id c.ticket) → Done P k u (as_command c)
-    slide-done h e f d =
+    slide_done : c.kind ≡ 2 → {a : Left} → a ≡ as_left (slide_left (limits_of P) (plain P)) → k ≡ slide_case a → u ≡ draw (slid P c.id c.ticket) → Done P k u (as_command c)
+    slide_done h e f d =
         is (sliding (request c.id c.ticket)) (simp (ne_eqb c.kind 1 other, eq-eqb c.kind 2 h))
         (f ∙ ap slide_case e ∙ slide_case_lem (slide_left (limits_of P) (plain P)), d)
 
-    serve-done : (c.kind ≡ 2 → ⊥) → {a : Left} → a ≡ as_left (history.served (plain P)) → k ≡ serve_case a → u ≡ draw (steps.served P) → Done P k u (as_command c)
-    serve-done h e f d =
+    serve_done : (c.kind ≡ 2 → ⊥) → {a : Left} → a ≡ as_left (history.served (plain P)) → k ≡ serve_case a → u ≡ draw (steps.served P) → Done P k u (as_command c)
+    serve_done h e f d =
         is serving (simp (ne_eqb c.kind 1 other, ne_eqb c.kind 2 h)) (f ∙ ap serve_case e ∙ serve_case_lem (history.served (plain P)), d)
 
-returns : tie.Need-returns
-returns c =
-    let s = c.before.before.before in
-    let a = s.before.before.before.before.before.args in
-    arrive-done (picture a.t.now) a.c (search rules) s.arrive.ensures.0 c.of-arrive.ensures s.arrive.ensures.1
+pub returns-then-c-eq-ARRIVE : goal.returns-then-c-eq-ARRIVE
+returns-then-c-eq-ARRIVE c = let k = arrive_done (picture c.args.t.now) c.args.c (search rules) c.arrive.ensures.reply c.of_arrive.ensures c.arrive.ensures.words in record { value = k.0; t_after = k.1 }
 
-returns-2 : tie.Need-returns-2
-returns-2 c =
-    let s = c.before.before.before in
-    let a = s.before.before.before.before.before.before.before.args in
-    slide-done (picture a.t.now) a.c (search rules) (search rules) s.slide.ensures.0 c.of-slide.ensures s.slide.ensures.1
+pub returns-then-c-eq-SLIDE : goal.returns-then-c-eq-SLIDE
+returns-then-c-eq-SLIDE c = let k = slide_done (picture c.args.t.now) c.args.c (search rules) (search rules) c.slide.ensures.reply c.of_slide.ensures c.slide.ensures.words in record { value = k.0; t_after = k.1 }
 
-returns-3 : tie.Need-returns-3
-returns-3 c =
-    let s = c.before.before.before in
-    let a = s.before.before.before.before.before.before.before.args in
-    serve-done (picture a.t.now) a.c (search rules) (search rules) s.serve.ensures.0 c.of-serve.ensures s.serve.ensures.1
-
-pub carry-out-spec : {M : Type 1} → statement M
-carry-out-spec =
-    tie.close
-    (tie.spec
-    (λ c κs. search rules)
-    (λ c κs. search rules)
-    (λ c. search rules)
-    returns
-    (λ c κs. search rules)
-    (λ c κs. search rules)
-    (λ c. search rules)
-    returns-2
-    (λ c κs. search rules)
-    (λ c κs. search rules)
-    (λ c. search rules)
-    returns-3)
+pub returns : goal.returns
+returns c = let k = serve_done (picture c.args.t.now) c.args.c (search rules) (search rules) c.serve.ensures.reply c.of_serve.ensures c.serve.ensures.words in record { value = k.0; t_after = k.1 }
