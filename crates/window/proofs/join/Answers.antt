@@ -22,4 +22,8 @@ overflow_add-n c =
     record { fits = omega (arith, c.header-n.ensures, requests_before c.requires.room, c.requires.sized.small) }
 
 pub returns : goal.returns
-returns c = record { writes = join_writes _ _ _ _ _ _ c.header-n.ensures c.take_item-r.ensures.value c.take_item-r.ensures.writes c.enter_item.ensures.writes c.set_header.ensures.writes; still_sized = c.set_header.ensures.still_sized }
+returns c =
+    record {
+      writes = join_writes _ _ _ _ _ _ c.header-n.ensures c.take_item-r.ensures.value c.take_item-r.ensures.writes c.enter_item.ensures.writes c.set_header.ensures.writes;
+      still_sized = c.set_header.ensures.still_sized;
+    }

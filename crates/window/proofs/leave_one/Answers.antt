@@ -16,4 +16,8 @@ leave_window-requires c =
     record { sized = c.unlink_own.ensures.still_sized; r_lt_q = w.0; link = w.1.0; bound = w.1.1 }
 
 pub returns : goal.returns
-returns c = record { writes = then (one_writes c.requires.sized c.requires.item_of c.unlink_own.ensures.writes) c.leave_window.ensures.writes; still_sized = c.leave_window.ensures.still_sized }
+returns c =
+    record {
+      writes = then (one_writes c.requires.sized c.requires.item_of c.unlink_own.ensures.writes) c.leave_window.ensures.writes;
+      still_sized = c.leave_window.ensures.still_sized;
+    }

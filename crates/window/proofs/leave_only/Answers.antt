@@ -17,4 +17,8 @@ leave_window-requires c =
     record { sized = c.set_client-2.ensures.still_sized; r_lt_q = w.0; link = w.1.0; bound = w.1.1 }
 
 pub returns : goal.returns
-returns c = record { writes = then (only_writes c.requires.sized c.requires.item_of c.set_client.ensures.writes c.set_client-2.ensures.writes) c.leave_window.ensures.writes; still_sized = c.leave_window.ensures.still_sized }
+returns c =
+    record {
+      writes = then (only_writes c.requires.sized c.requires.item_of c.set_client.ensures.writes c.set_client-2.ensures.writes) c.leave_window.ensures.writes;
+      still_sized = c.leave_window.ensures.still_sized;
+    }
