@@ -15,7 +15,6 @@ use Rattle.answers.specs.declared.Told.{Told}
 use Rattle.answers.specs.declared.Told.TheVariants as told
 use Rattle.answers.specs.declared.Ran.{Ran}
 use Rattle.answers.specs.declared.Ran.TheVariants as ran
-use Rattle.answers.specs.declared.Replay.{Replay}
 use Rattle.answers.specs.declared.Replayed.{Replayed}
 use Rattle.answers.specs.declared.Replayed.TheVariants as replayed
 

@@ -61,7 +61,7 @@ all_few {q} {t} y (c ∷ cs) =
     let a : List ℕ = draw (next (picture t) c) in
     let r : Ready (picture t).places a = drawn_ready k refl in
     let rest : altered a (draw (next_all (next (picture t) c) cs)) ≤ 48 * length cs =
-    subst (λ (P : Picture). altered a (draw (next_all P cs)) ≤ 48 * length cs) (drawn_picture k refl) (all_few r cs) in
+    subst (λ (P : Picture). altered a (draw (next_all P cs)) ≤ 48 * length cs) (drawn_picture k refl) (all_few {q = (picture t).places} r cs) in
     rw (mul-suc 48 (length cs))
     (omega (arith, altered_trans t a (draw (next_all (next (picture t) c) cs)) ((ready_sized r).long ∙ ap kind.size y.places ∙ sym (ready_sized y).long), next_few y c, most_of_one c, rest))
 

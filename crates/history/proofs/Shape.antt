@@ -24,7 +24,7 @@ use Rattle.rules.proofs.Put.{all_puts, put_there}
 use Rattle.rules.proofs.Choose.{either_way}
 use Rattle.rules.proofs.Columns.{chain_head}
 use Rattle.rules.proofs.Sound.{sound_clauses}
-use Rattle.rules.proofs.Right.{clients_distinct, places}
+use Rattle.rules.proofs.Right.{clients_distinct}
 use Rattle.rules.proofs.Rule.{choice_joined}
 use Rattle.rules.proofs.Plain.{clients_plain}
 use Rattle.rules.proofs.Settle.{Step}

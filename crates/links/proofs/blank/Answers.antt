@@ -1,9 +1,8 @@
 -- The invariant: the first f words are as `blanked` has them. The measure is what is left of n. Assumes nothing.
 use mathlib.Core.Path.{◌≡◌, refl}
 use borrow.Author.Tests.{eq-eqb, ne_eqb}
-use Prim.Native.Nat.{◌-◌}
 use native.Mathlib.Omega.{arith}
-use lib.ListN.{length, length-set}
+use lib.ListN.{length-set}
 use Rattle.links.specs.Pools.{blanked}
 use Rattle.links.proofs.Pools.{blank_next}
 use Rattle.links.proofs.blank.Goals as goal
@@ -29,12 +28,11 @@ pub loop-f-smaller : goal.loop-f-smaller
 loop-f-smaller c = omega arith
 
 pub loop-f-preserved : goal.loop-f-preserved
-loop-f-preserved c =
-    (
-      omega arith,
-      simp length-set c.loop-f.invariant.1,
-      blank_next _ _ _ _ _ _ _ c.loop-f.invariant.2 (elim c.if-f-link.branch [ then-f-link w ↦ rw (eq-eqb _ _ w.if-f-link.true) w.t-is | else-f-link w ↦ rw (ne_eqb _ _ w.if-f-link.false) w.t-is ]),
-    )
+loop-f-preserved c = (
+  omega arith,
+  simp length-set c.loop-f.invariant.1,
+  blank_next _ _ _ _ _ _ _ c.loop-f.invariant.2 (elim c.if-f-link.branch [ then-f-link w ↦ rw (eq-eqb _ _ w.if-f-link.true) w.t-is | else-f-link w ↦ rw (ne_eqb _ _ w.if-f-link.false) w.t-is ]),
+)
 
 pub shape_of-t : goal.shape_of-t
 shape_of-t c = c.loop-f.invariant.1

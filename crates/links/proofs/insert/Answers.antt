@@ -3,7 +3,7 @@ use native.Mathlib.Omega.{arith}
 use Rattle.links.proofs.insert.Goals as goal
 
 pub turn-requires : goal.turn-requires
-turn-requires c = 
+turn-requires c =
     record {
       ends = (omega arith, omega arith);
       reach = λ n. (omega (arith, (c.requires.reach n).0), omega (arith, (c.requires.reach n).1));

@@ -2,7 +2,6 @@
 use mathlib.Core.Path.{ap}
 use native.Mathlib.Omega.{arith}
 use lib.ListN.{length}
-use Rattle.page.specs.Text.{decimal}
 use Rattle.page.proofs.Decimal.{decimal_small, length_more, length_some, length_word}
 use Rattle.page.proofs.places.Goals as goal
 

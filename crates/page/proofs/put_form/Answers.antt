@@ -1,8 +1,6 @@
 -- The first j bytes of the form are put, with the first k numbers. Assumes nothing.
-use Prim.Native.Nat.{◌-◌}
 use native.Mathlib.Omega.{arith}
 use borrow.Author.Rules.{rules}
-use lib.ListN.{length}
 use Rattle.page.proofs.Put.{put_length}
 use Rattle.page.proofs.Begun.{begin}
 use Rattle.page.proofs.Form.{mark_room, mark_turn, byte_room, byte_turn, filling_end}
@@ -23,8 +21,8 @@ bounds-out-i c =
 pub loop-j-preserved : goal.loop-j-preserved
 loop-j-preserved c =
     elim c.if-form-j-eq35.branch [
-      then-form-j-eq35 w ↦ rw (w.out-is, w.i-is, w.k-is) (mark_turn c.loop-j.invariant c.loop-j-test.true w.if-form-j-eq35.true (rw w.nth.ensures at w.put_number-i.ensures))
-    | else-form-j-eq35 w ↦ rw (w.out-is, w.i-is, w.k-is) (byte_turn c.loop-j.invariant c.loop-j-test.true w.if-form-j-eq35.false)
+      | then-form-j-eq35 w ↦ rw (w.out-is, w.i-is, w.k-is) (mark_turn c.loop-j.invariant c.loop-j-test.true w.if-form-j-eq35.true (rw w.nth.ensures at w.put_number-i.ensures))
+      | else-form-j-eq35 w ↦ rw (w.out-is, w.i-is, w.k-is) (byte_turn c.loop-j.invariant c.loop-j-test.true w.if-form-j-eq35.false)
     ]
 
 pub shape_of-out : goal.shape_of-out
