@@ -1,7 +1,8 @@
 // What the programs read and print with, and how they compare words.
 #![tactic(auto)]
 
-ghost use Rattle.std.specs.Prelude.{◌≡◌, ◌≤◌, length};
+ghost use Rattle.std.specs.Prelude.{◌≡◌, ◌≤◌, ◌<◌, length, take, None};
+ghost use Rattle.std.specs.Io.KnownBytes.{Consumes, IsAtEnd};
 ghost use Rattle.table.specs.Regions.{altered};
 ghost use Rattle.report.specs.Counts.{IsPrefixLen};
 
@@ -19,7 +20,9 @@ pub struct Full {
 
 // Reads until buf is full, the reader ends or a read fails. A read that a signal interrupts is one that failed.
 pub fn read_full<R: Read>(reader: &mut R, buf: &mut [u8]) -> Full
-    ensures { IsPrefixLen result.bytes buf.new }
+    ensures front { IsPrefixLen result.bytes buf.new }
+    ensures bytes { Consumes (R.remaining reader.old) (R.remaining reader.new) (take result.bytes buf.new) }
+    ensures end { result.failed ≡ None → result.bytes < length buf.new → IsAtEnd (R.remaining reader.new) }
 {
     let mut done = 0;
     while done < buf.len() {

@@ -1,5 +1,4 @@
 -- Where the second has no more words, no more places differ.
-use Rattle.std.proofs.Common.{arith}
 use Rattle.report.proofs.Compare.{second_ends}
 use Rattle.report.proofs.differ.Goals as goal
 
