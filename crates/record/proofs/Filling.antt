@@ -21,7 +21,6 @@ use Rattle.recording.specs.Block.{four_of, nine, sealed}
 use Rattle.recording.proofs.Torn.{four_back}
 use Rattle.recording.proofs.Written.{sealed_front, sealed_length}
 use Rattle.recorder.specs.Record.{record_number, one_more, record_block}
-use Rattle.record.specs.declared.Filled.{Filled}
 use Rattle.record.specs.Fills.{Fills}
 
 abbrev Bytes : List ℕ → Type 0
