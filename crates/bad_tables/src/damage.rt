@@ -52,10 +52,10 @@ fn altered(s: &[u8], from: usize) -> [u32; WORDS] {
     t
 }
 
-pub fn line(s: &[u8]) {
+pub fn line(rt: &impl Print, s: &[u8]) {
     let colon = report::find(s, 0, b':');
     let lent = report::next(s, colon + 1);
-    report::text(&s[0..colon]);
-    report::text(b":");
-    judge(altered(s, lent.end), lent.number as usize);
+    report::text(rt, &s[0..colon]);
+    report::text(rt, b":");
+    judge(rt, altered(s, lent.end), lent.number as usize);
 }

@@ -63,40 +63,44 @@ fn ran(a: Ran) -> u32 {
 }
 
 // The numbers of heaviest, lightest, count, oldest and newest.
-fn ask(t: &[u32], heavy: &mut [u32], light: &mut [u32]) {
-    report::word(b" ", listed(limiter::heaviest(t, 3, heavy)));
-    report::word(b" ", listed(limiter::lightest(t, 3, light)));
-    report::word(b" ", counted(limiter::count(t, 1)));
-    report::word(b" ", told(limiter::oldest(t, 1)));
-    report::word(b" ", told(limiter::newest(t, 1)));
+fn ask(rt: &impl Print, t: &[u32], heavy: &mut [u32], light: &mut [u32]) {
+    report::word(rt, b" ", listed(limiter::heaviest(t, 3, heavy)));
+    report::word(rt, b" ", listed(limiter::lightest(t, 3, light)));
+    report::word(rt, b" ", counted(limiter::count(t, 1)));
+    report::word(rt, b" ", told(limiter::oldest(t, 1)));
+    report::word(rt, b" ", told(limiter::newest(t, 1)));
 }
 
 // The numbers of serve, arrive, slide and a run of one arrival, one after the other.
-fn change(t: &mut [u32]) {
-    report::word(b" ", served(limiter::serve(t)));
-    report::word(b" ", arrived(limiter::arrive(t, 1, 99)));
-    report::word(b" ", slid(limiter::slide(t, 1, 99)));
-    report::word(b" ", ran(limiter::run(t, &[1, 1, 0, 0, 0, 99, 0, 0, 0], 1)));
+fn change(rt: &impl Print, t: &mut [u32]) {
+    report::word(rt, b" ", served(limiter::serve(t)));
+    report::word(rt, b" ", arrived(limiter::arrive(t, 1, 99)));
+    report::word(rt, b" ", slid(limiter::slide(t, 1, 99)));
+    report::word(
+        rt,
+        b" ",
+        ran(limiter::run(t, &[1, 1, 0, 0, 0, 99, 0, 0, 0], 1)),
+    );
 }
 
 // Every call on the first n words.
-fn lend(t: &mut [u32], n: usize, heavy: &mut [u32], light: &mut [u32]) {
+fn lend(rt: &impl Print, t: &mut [u32], n: usize, heavy: &mut [u32], light: &mut [u32]) {
     if n <= t.len() {
-        ask(&t[0..n], heavy, light);
-        change(&mut t[0..n]);
+        ask(rt, &t[0..n], heavy, light);
+        change(rt, &mut t[0..n]);
     }
 }
 
 // The rest of a line: the numbers, how many words differ afterwards of all that stand there, and the outputs.
-pub fn judge(before: [u32; WORDS], n: usize) {
+pub fn judge(rt: &impl Print, before: [u32; WORDS], n: usize) {
     let mut t = before;
     let mut heavy = [GUARD; OUT];
     let mut light = [GUARD; OUT];
-    lend(&mut t, n, &mut heavy, &mut light);
-    report::field(b" altered ", report::differ(&t, &before) as u64);
-    report::text(b" heaviest");
-    report::words(&heavy);
-    report::text(b" lightest");
-    report::words(&light);
-    report::text(b"\n");
+    lend(rt, &mut t, n, &mut heavy, &mut light);
+    report::field(rt, b" altered ", report::differ(&t, &before) as u64);
+    report::text(rt, b" heaviest");
+    report::words(rt, &heavy);
+    report::text(rt, b" lightest");
+    report::words(rt, &light);
+    report::text(rt, b"\n");
 }

@@ -5,31 +5,36 @@ mod damage;
 mod judge;
 mod room;
 
+use std::rt::Files;
+
+// Room for the longest file.
+const TEXT: usize = 65_536;
+
 // A line of one of the two files.
-fn line(s: &[u8], room: bool) {
+fn line(rt: &impl Print, s: &[u8], room: bool) {
     if room {
-        room::line(s);
+        room::line(rt, s);
     } else {
-        damage::line(s);
+        damage::line(rt, s);
     }
 }
 
-fn lines(s: &[u8], room: bool) {
+fn lines(rt: &impl Print, s: &[u8], room: bool) {
     let mut at = 0;
     while at < s.len() {
         let end = report::find(s, at, b'\n');
-        line(&s[at..end], room);
+        line(rt, &s[at..end], room);
         at = end + 1;
     }
 }
 
-fn file(path: &[u8], room: bool) {
-    let mut text = io::large_buffer();
-    let n = report::load(path, &mut text);
-    lines(&text[..n], room);
+fn file(rt: &(impl Files + Print), path: &[u8], room: bool) {
+    let mut text = [0u8; TEXT];
+    let n = report::load(rt, path, &mut text);
+    lines(rt, &text[..n], room);
 }
 
-fn main() {
-    file(b"damage.txt", false);
-    file(b"room.txt", true);
+fn main(rt: HostRuntime) {
+    file(&rt, b"damage.txt", false);
+    file(&rt, b"room.txt", true);
 }

@@ -4,30 +4,32 @@
 mod listing;
 mod running;
 
+use std::rt::{Env, Files};
+
 // A line with the file's name, and what is printed for it.
-fn print(name: &[u8]) {
+fn print(rt: &(impl Files + Print), name: &[u8]) {
     let mut input = [0u8; printer::INPUT + 1];
     let mut page = [0u8; printer::PAGE];
-    let n = report::load(name, &mut input);
+    let n = report::load(rt, name, &mut input);
     let m = printer::print(&input[..n], &mut page);
-    report::text(name);
-    report::text(b":\n");
-    report::text(&page[..m]);
+    report::text(rt, name);
+    report::text(rt, b":\n");
+    report::text(rt, &page[..m]);
 }
 
-fn argument(i: usize) {
+fn argument(rt: &(impl Env + Files + Print), i: usize) {
     let mut name = [0u8; 64];
-    let n = os::arg(i, &mut name);
-    print(&name[..n]);
+    let n = report::argument(rt, i, &mut name);
+    print(rt, &name[..n]);
 }
 
-fn main() {
-    let n = os::arg_count();
+fn main(rt: HostRuntime) {
+    let n = report::argument_count(&rt);
     let mut i = 1;
     while i < n {
-        argument(i);
+        argument(&rt, i);
         i += 1;
     }
-    listing::all();
-    running::all();
+    listing::all(&rt);
+    running::all(&rt);
 }

@@ -1,41 +1,42 @@
 // Budgets, each on a fresh table.
 use crate::listing::{Q, SIZE};
 use answers::{Ran, Report};
+use std::rt::Files;
 
-fn line(r: Report) {
-    report::word(b" stop ", r.stop);
-    report::field(b" done ", r.done);
-    report::field(b" joined ", r.joined);
-    report::field(b" evicted ", r.evicted);
-    report::field(b" passed ", r.passed);
-    report::field(b" served ", r.served);
-    report::field(b" turned ", r.turned);
-    report::field(b" idle ", r.idle);
+fn line(rt: &impl Print, r: Report) {
+    report::word(rt, b" stop ", r.stop);
+    report::field(rt, b" done ", r.done);
+    report::field(rt, b" joined ", r.joined);
+    report::field(rt, b" evicted ", r.evicted);
+    report::field(rt, b" passed ", r.passed);
+    report::field(rt, b" served ", r.served);
+    report::field(rt, b" turned ", r.turned);
+    report::field(rt, b" idle ", r.idle);
 }
 
 // Runs the commands of a printer's input, whatever its Q, with a budget.
-fn run(name: &[u8], budget: u64) {
+fn run(rt: &(impl Files + Print), name: &[u8], budget: u64) {
     let mut t = [0u32; SIZE];
     let mut input = [0u8; 128];
-    let n = report::load(name, &mut input);
+    let n = report::load(rt, name, &mut input);
     layout::lay_out(&mut t, Q);
-    report::text(name);
-    report::field(b", budget ", budget);
+    report::text(rt, name);
+    report::field(rt, b", budget ", budget);
     if 2 <= n {
         match limiter::run(&mut t, &input[2..n], budget) {
-            Ran::Reported(r) => line(r),
-            Ran::Refused(x) => report::word(b" refused ", x.number),
+            Ran::Reported(r) => line(rt, r),
+            Ran::Refused(x) => report::word(rt, b" refused ", x.number),
         }
     }
-    report::text(b"\n");
+    report::text(rt, b"\n");
 }
 
-pub fn all() {
-    run(b"session", 9);
-    run(b"session", 8);
-    run(b"session", 0);
-    run(b"session", u64::MAX);
-    run(b"no_command", 0);
-    run(b"cut_command", 0);
-    run(b"bad_kind", 0);
+pub fn all(rt: &(impl Files + Print)) {
+    run(rt, b"session", 9);
+    run(rt, b"session", 8);
+    run(rt, b"session", 0);
+    run(rt, b"session", u64::MAX);
+    run(rt, b"no_command", 0);
+    run(rt, b"cut_command", 0);
+    run(rt, b"bad_kind", 0);
 }

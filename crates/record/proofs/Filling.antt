@@ -21,7 +21,6 @@ use Rattle.recording.specs.Block.{four_of, nine, sealed}
 use Rattle.recording.proofs.Torn.{four_back}
 use Rattle.recording.proofs.Written.{sealed_front, sealed_length}
 use Rattle.recorder.specs.Record.{record_number, one_more, record_block}
-use Rattle.record.specs.declared.Filled.{Filled}
 use Rattle.record.specs.Fills.{Fills}
 
 abbrev Bytes : List ℕ → Type 0
@@ -141,7 +140,3 @@ all_filled n s f e short =
       refused = rw (left, lt-ltb (length s % command_bytes) command_bytes (omega arith));
       all = λ z. by_cases (ℕ_discrete (length s % command_bytes) 0) (λ y. omega arith) (λ y. absurd (omega (arith, rw (ne_eqb (length s % command_bytes) 0 y) at z)));
     }
-
--- nothing is refused of a whole block's bytes: it is not behind the last block
-pub may_follow : (n : ℕ) (s : List ℕ) {r : Filled} {b : List ℕ} → Fills n s r b → r.refused ≡ 0 → length s ≡ kind.used_at → n < kind.blocks
-may_follow n s f e full = omega (arith, f.room, f.all e)

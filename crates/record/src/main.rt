@@ -10,7 +10,6 @@ ghost use Rattle.record.specs.Fills.{Fills};
 
 use answers::Report;
 use command::Command;
-use libc::STDERR_FILENO;
 use recording::Block;
 
 // What came of a block's commands: how many were recorded, and why what follows them is refused, 0 where nothing is.
@@ -56,31 +55,25 @@ fn fill(block: &mut [u8; Block::BYTES], number: u64, s: &[u8]) -> Filled
     }
 }
 
-fn refuse(refused: u32, command: u64) {
-    let mut line = [0u8; 64];
-    let n = page::put_form(
-        &mut line,
-        0,
-        b"refused # command #\n",
-        &[refused as u64, command],
-    );
-    io::write_all(STDERR_FILENO, &line[..n]);
+fn refuse(rt: &impl Eprint, refused: u32, command: u64) {
+    let _ = eprintln!(rt; "refused {refused} command {command}");
 }
 
 // Records the commands of the block with that number: whether more may follow, which is never so behind the last block.
-fn block(number: u64) -> bool
+fn block(rt: &(impl Input + Print + Eprint), number: u64) -> bool
     requires { number ≤ kind.blocks }
     ensures { result ≡ true → number < kind.blocks }
 {
     let mut commands = [0u8; Block::USED_AT];
     let mut block = [0u8; Block::BYTES];
-    let n = report::input(&mut commands);
+    let n = report::input(rt, &mut commands);
     let filled = fill(&mut block, number, &commands[..n]);
-    if filled.commands != 0 && !report::output(&block) {
+    if filled.commands != 0 && !report::output(rt, &block) {
         return false;
     }
     if filled.refused != 0 {
         refuse(
+            rt,
             filled.refused,
             Block::COMMANDS as u64 * number + filled.commands,
         );
@@ -89,13 +82,13 @@ fn block(number: u64) -> bool
     n == Block::USED_AT
 }
 
-fn main() {
-    if 1 < os::arg_count() {
-        io::write_all(STDERR_FILENO, b"usage: record < commands > recording\n");
+fn main(rt: HostRuntime) {
+    if 1 < report::argument_count(&rt) {
+        let _ = eprintln!(rt; "usage: record < commands > recording");
         return;
     }
     let mut number = 0;
-    while block(number) {
+    while block(&rt, number) {
         number += 1;
     }
 }

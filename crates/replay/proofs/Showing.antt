@@ -48,38 +48,6 @@ module _ (t ps : List ℕ) (long : length ps ≡ 2 * kind.largest) where
   room : 2 * kind.largest ≤ length ps
   room = omega arith
 
-  -- a number is answered: the table is not refused, and so many pairs are listed
-  module _ {n : ℕ} (e : answer.Number n ≡ listed_answer kind.largest (length ps) t) where
-    not_refused : accepts t ≡ true
-    not_refused = go (accepts t) refl e
-      where
-        go : (b : Bool) → accepts t ≡ b → answer.Number n ≡ cond b (listed_of all) (answer.Refused (refusal_on t)) → accepts t ≡ true
-        go true y e = y
-        go false y e = let z : ◌≡◌ {A = ℕ} 0 1 = cc in absurd (omega arith)
-
-    are_listed : listings.Pairs n ≡ all
-    are_listed = go all (rw not_refused at e)
-      where
-        go : (l : Listing) → answer.Number n ≡ listed_of l → listings.Pairs n ≡ l
-        go (listings.Pairs m) e = let z : n ≡ m = cc in ap listings.Pairs z
-        go listings.NoRoom e = let z : ◌≡◌ {A = ℕ} 0 1 = cc in absurd (omega arith)
-
-    pub listed_few : 2 * n ≤ 2 * kind.largest
-    listed_few = omega (arith, printed.listed_few kind.largest (waiting_in t) ps room are_listed)
-
-    module _ {ps' : List ℕ} (w : ps' ≡ listed_out heaviest kind.largest t ps) where
-      written : ps' ≡ listed_words heaviest kind.largest (waiting_in t) ps
-      written = w ∙ rw not_refused
-
-      pub listed_part : 2 * n ≡ length (take (2 * n) ps')
-      listed_part = printed.listed_part kind.largest (waiting_in t) ps room are_listed written
-
-      pub listed_fits : 2 * n ≤ length ps'
-      listed_fits = printed.listed_fits kind.largest (waiting_in t) ps room are_listed written
-
-      pub listed_put : {out out' : List ℕ} {at end : ℕ} → Put out at (client_lines (take (2 * n) ps')) out' end → Put out at (waiting_lines t) out' end
-      listed_put p = rw (not_refused, ← printed.listed_words_lem kind.largest (waiting_in t) ps room are_listed written) p
-
   -- a refusal is answered: the table is refused, for there is room
   module _ {x : Refusal} (e : answer.Refused x ≡ listed_answer kind.largest (length ps) t) where
     nobody : waiting_lines t ≡ []

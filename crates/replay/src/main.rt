@@ -11,8 +11,8 @@ ghost use Rattle.replay.specs.Counted.{Counted};
 ghost use Rattle.replay.specs.Shown.{replay_line, waiting_lines, shown};
 
 use answers::{Listed, Replay, Replayed, Report};
-use libc::STDERR_FILENO;
 use recording::Block;
+use std::rt::Env;
 use table::LinkedTable;
 
 // The words of the largest table and of its listing, and a page for its lines: the report's, and one for each place.
@@ -35,9 +35,9 @@ enum Given {
     Other,
 }
 
-fn argument(i: usize) -> Given {
+fn argument(rt: &impl Env, i: usize) -> Given {
     let mut text = [0u8; ARGUMENT];
-    let n = os::arg(i, &mut text);
+    let n = report::argument(rt, i, &mut text);
     if report::is_decimal(&text[..n]) {
         Given::Number(report::number(&text[..n]))
     } else {
@@ -71,21 +71,21 @@ fn replayed(t: &mut [u32], bytes: &[u8], first: u64) -> Replay
 }
 
 // Reads a piece, as far as there is one, and replays it.
-fn piece(t: &mut [u32], bytes: &mut [u8], first: u64) -> Replay
+fn piece(rt: &(impl Input + Eprint), t: &mut [u32], bytes: &mut [u8], first: u64) -> Replay
     ensures { Counted result × (kind.block_bytes * result.blocks ≤ length bytes.old) }
 {
-    let n = report::input(bytes);
+    let n = report::input(rt, bytes);
     replayed(t, &bytes[..n], first)
 }
 
 // The next piece, of so many blocks.
-fn next(t: &mut [u32], first: u64, blocks: u64) -> Replay
+fn next(rt: &(impl Input + Eprint), t: &mut [u32], first: u64, blocks: u64) -> Replay
     requires { blocks ≤ 64 }
     ensures { Counted result × (result.blocks ≤ blocks) }
 {
     let mut bytes = [0u8; Block::BYTES * PIECE as usize];
     let end = Block::BYTES * blocks as usize;
-    piece(t, &mut bytes[..end], first)
+    piece(rt, t, &mut bytes[..end], first)
 }
 
 // One piece's report behind another's.
@@ -101,13 +101,13 @@ fn both(a: Replay, b: Replay) -> Replay
 }
 
 // Replays at most so many blocks, piece by piece. Where a piece has fewer than were asked for, a block failed or the input ended.
-fn replay(t: &mut [u32], most: u64) -> Replay
+fn replay(rt: &(impl Input + Eprint), t: &mut [u32], most: u64) -> Replay
     requires { most ≤ 1 + kind.blocks }
 {
     let mut all = nothing(Report::ENDED);
     while all.blocks < most {
         let wanted = least(PIECE, most - all.blocks);
-        let more = next(t, all.blocks, wanted);
+        let more = next(rt, t, all.blocks, wanted);
         all = both(all, more);
         if more.blocks < wanted {
             return all;
@@ -173,50 +173,47 @@ fn show(t: &[u32], r: Replay, out: &mut [u8; PAGE]) -> usize
     waiting(t, &mut pairs, out, at)
 }
 
-fn refuse(number: u32) {
+fn refuse(rt: &(impl Print + Eprint), number: u32) {
     let mut line = [0u8; 32];
     let n = printer::refuse(&mut line, number);
-    report::output(&line[..n]);
+    report::output(rt, &line[..n]);
 }
 
 // A recording has at most 65,536 blocks. One more is replayed where it is there, since that fails.
-fn evening(places: u64, blocks: u64) {
+fn evening(rt: &(impl Input + Print + Eprint), places: u64, blocks: u64) {
     let mut t = [0u32; TABLE];
     let mut page = [0u8; PAGE];
     let number = layout::lay_out(&mut t, places as usize);
     if number != 0 {
-        refuse(number);
+        refuse(rt, number);
         return;
     }
-    let r = replay(&mut t, least(blocks, Block::BLOCKS + 1));
+    let r = replay(rt, &mut t, least(blocks, Block::BLOCKS + 1));
     let n = show(&t, r, &mut page);
-    report::output(&page[..n]);
+    report::output(rt, &page[..n]);
 }
 
-fn usage() {
-    io::write_all(
-        STDERR_FILENO,
-        b"usage: replay PLACES [BLOCKS] < recording\n",
-    );
+fn usage(rt: &impl Eprint) {
+    let _ = eprintln!(rt; "usage: replay PLACES [BLOCKS] < recording");
 }
 
-fn main() {
-    let n = os::arg_count();
-    let Given::Number(places) = argument(1) else {
-        usage();
+fn main(rt: HostRuntime) {
+    let n = report::argument_count(&rt);
+    let Given::Number(places) = argument(&rt, 1) else {
+        usage(&rt);
         return;
     };
     if n == 2 {
-        evening(places, Block::BLOCKS + 1);
+        evening(&rt, places, Block::BLOCKS + 1);
         return;
     }
-    let Given::Number(blocks) = argument(2) else {
-        usage();
+    let Given::Number(blocks) = argument(&rt, 2) else {
+        usage(&rt);
         return;
     };
     if n == 3 {
-        evening(places, blocks);
+        evening(&rt, places, blocks);
     } else {
-        usage();
+        usage(&rt);
     }
 }

@@ -3,6 +3,7 @@ ghost use Rattle.std.specs.Prelude.{◌+◌, ◌<◌, length};
 
 use answers::{Replay, Replayed};
 use recording::Block;
+use std::rt::Files;
 
 // Its bytes, and room for it twice.
 const ONCE: usize = 3 * Block::BYTES;
@@ -75,73 +76,73 @@ fn end(case: u8, a: usize) -> usize {
 }
 
 // A number, a blank before it.
-fn field(n: u64) {
-    report::field(b" ", n);
+fn field(rt: &impl Print, n: u64) {
+    report::field(rt, b" ", n);
 }
 
-fn numbers(r: Replay) {
+fn numbers(rt: &impl Print, r: Replay) {
     let s = r.report;
-    report::word(b": ", s.stop);
-    field(r.blocks);
-    field(s.done);
-    field(s.joined);
-    field(s.evicted);
-    field(s.passed);
-    field(s.served);
-    field(s.turned);
-    field(s.idle);
+    report::word(rt, b": ", s.stop);
+    field(rt, r.blocks);
+    field(rt, s.done);
+    field(rt, s.joined);
+    field(rt, s.evicted);
+    field(rt, s.passed);
+    field(rt, s.served);
+    field(rt, s.turned);
+    field(rt, s.idle);
 }
 
 // Replays a part of the bytes on a fresh table of q places, and prints what that reports.
-fn replay(t: &mut [u32], q: usize, s: &[u8], from: usize, end: usize) {
+fn replay(rt: &impl Print, t: &mut [u32], q: usize, s: &[u8], from: usize, end: usize) {
     layout::lay_out(t, q);
     if from <= end && end <= s.len() {
         match limiter::replay(t, &s[from..end], 0) {
-            Replayed::Reported(r) => numbers(r),
-            Replayed::Refused(x) => report::word(b": refused ", x.number),
+            Replayed::Reported(r) => numbers(rt, r),
+            Replayed::Refused(x) => report::word(rt, b": refused ", x.number),
         }
     }
 }
 
 // Reads the recording, and once more behind it.
-fn load(s: &mut [u8]) {
+fn load(rt: &impl Files, s: &mut [u8]) {
     if ONCE <= s.len() {
-        report::load(b"evening.bin", &mut s[0..ONCE]);
-        report::load(b"evening.bin", &mut s[ONCE..]);
+        report::load(rt, b"evening.bin", &mut s[0..ONCE]);
+        report::load(rt, b"evening.bin", &mut s[ONCE..]);
     }
 }
 
 // The case that begins at place `at` of a line. Of the two whose first letter is w, `without the first` has i behind it.
-fn case(s: &[u8], at: usize, t: &mut [u32], q: usize)
+fn case(rt: &(impl Files + Print), s: &[u8], at: usize, t: &mut [u32], q: usize)
     requires { at + 1 < length s.now }
 {
     let mut bytes = [0u8; TWICE];
-    load(&mut bytes);
+    load(rt, &mut bytes);
     let a = report::next(s, report::find(s, at, b' '));
     let b = report::next(s, a.end);
     let p = a.number as usize;
     change(&mut bytes, s[at], p, b.number as usize);
     let from = if s[at + 1] == b'i' { Block::BYTES } else { 0 };
-    replay(t, q, &bytes, from, end(s[at], p));
+    replay(rt, t, q, &bytes, from, end(s[at], p));
 }
 
 // The same behind the blank at `at`.
-fn behind(s: &[u8], at: usize, t: &mut [u32], q: usize) {
+fn behind(rt: &(impl Files + Print), s: &[u8], at: usize, t: &mut [u32], q: usize) {
     if at < s.len() {
         let start = at + 1;
         if 1 < s.len() - start {
-            case(s, start, t, q);
+            case(rt, s, start, t, q);
         }
     }
 }
 
 // A line of the vectors: places and case, and what the replay comes to.
-pub fn line(s: &[u8], t: &mut [u32]) {
+pub fn line(rt: &(impl Files + Print), s: &[u8], t: &mut [u32]) {
     let said = report::find(s, 0, b':');
     let places = report::next(s, report::find(s, 0, b' '));
     let q = places.number as usize;
-    report::text(&s[0..said]);
-    behind(s, places.end, t, q);
-    report::text(b" :");
-    crate::words(t, q);
+    report::text(rt, &s[0..said]);
+    behind(rt, s, places.end, t, q);
+    report::text(rt, b" :");
+    crate::words(rt, t, q);
 }

@@ -2,48 +2,48 @@
 use answers::{Arrived, Refusal, Request, Served, Slid};
 
 // The request that left.
-fn left(case: &[u8], r: Request) {
-    report::word(case, r.id);
-    report::field(b" ", r.ticket as u64);
+fn left(rt: &impl Print, case: &[u8], r: Request) {
+    report::word(rt, case, r.id);
+    report::field(rt, b" ", r.ticket as u64);
 }
 
-fn arrived(a: Arrived) {
+fn arrived(rt: &impl Print, a: Arrived) {
     match a {
-        Arrived::Joined => report::text(b"joined 0 0"),
-        Arrived::Evicted(r) => left(b"evicted ", r),
-        Arrived::Turned => report::text(b"turned 0 0"),
-        Arrived::Refused(x) => report::word(b"refused ", x.number),
+        Arrived::Joined => report::text(rt, b"joined 0 0"),
+        Arrived::Evicted(r) => left(rt, b"evicted ", r),
+        Arrived::Turned => report::text(rt, b"turned 0 0"),
+        Arrived::Refused(x) => report::word(rt, b"refused ", x.number),
     }
 }
 
-fn slid(a: Slid) {
+fn slid(rt: &impl Print, a: Slid) {
     match a {
-        Slid::Joined => report::text(b"joined 0 0"),
-        Slid::Passed(r) => left(b"passed ", r),
-        Slid::Refused(x) => report::word(b"refused ", x.number),
+        Slid::Joined => report::text(rt, b"joined 0 0"),
+        Slid::Passed(r) => left(rt, b"passed ", r),
+        Slid::Refused(x) => report::word(rt, b"refused ", x.number),
     }
 }
 
-fn served(a: Served) {
+fn served(rt: &impl Print, a: Served) {
     match a {
-        Served::Left(r) => left(b"served ", r),
+        Served::Left(r) => left(rt, b"served ", r),
         Served::Refused(x) => {
             if x.number == Refusal::NOBODY_WAITS {
-                report::text(b"nobody 0 0");
+                report::text(rt, b"nobody 0 0");
             } else {
-                report::word(b"refused ", x.number);
+                report::word(rt, b"refused ", x.number);
             }
         }
     }
 }
 
 // The reply to a command, of which the second letter tells the kind: arrive, slide, serve.
-pub fn of(t: &mut [u32], kind: u8, id: u32, ticket: u32) {
+pub fn of(rt: &impl Print, t: &mut [u32], kind: u8, id: u32, ticket: u32) {
     if kind == b'r' {
-        arrived(limiter::arrive(t, id, ticket));
+        arrived(rt, limiter::arrive(t, id, ticket));
     } else if kind == b'l' {
-        slid(limiter::slide(t, id, ticket));
+        slid(rt, limiter::slide(t, id, ticket));
     } else {
-        served(limiter::serve(t));
+        served(rt, limiter::serve(t));
     }
 }

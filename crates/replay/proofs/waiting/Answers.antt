@@ -1,0 +1,7 @@
+-- A refusal lists nobody.
+use Rattle.std.proofs.Common.{arith}
+use Rattle.replay.proofs.Showing.{none_put}
+use Rattle.replay.proofs.waiting.Goals as goal
+
+pub returns-in-Refused : goal.returns-in-Refused
+returns-in-Refused c = none_put c.args.t.now c.args.pairs.now c.requires.pairs_len c.in-Refused.ensures.reply (omega (arith, c.requires.largest_in_bounds))
