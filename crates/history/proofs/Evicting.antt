@@ -17,7 +17,8 @@ use Rattle.rules.proofs.Sharing.{Fair}
 use Rattle.rules.proofs.Run.{all_step}
 use Rattle.rules.proofs.Run.{after_append as commands-append}
 use Rattle.rules.proofs.Evicting as evicting
-use Rattle.rules.proofs.Evicting.{Level, level_turned, evicted_level, level_after}
+use Rattle.rules.proofs.Level.{Level}
+use Rattle.rules.proofs.Evicting.{level_turned, evicted_level, level_after}
 use Rattle.answers.specs.Engine.{as_choice}
 use Rattle.answers.specs.Offered.{arrived_of}
 use Rattle.answers.specs.declared.Request as code

@@ -81,7 +81,8 @@ pub fn put_form(out: &mut [u8], at: usize, form: &[u8], numbers: &[u64]) -> usiz
     let mut j = 0;
     let mut k = 0;
     while j < form.len() {
-        if form[j] == b'#' {
+        let is_mark = form[j] == b'#';
+        if is_mark {
             i = put_number(out, i, nth(numbers, k));
             k += 1;
         } else {

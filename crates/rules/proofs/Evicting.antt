@@ -16,6 +16,7 @@ use Rattle.rules.specs.Picture.{Picture, plain, limits_of}
 use Rattle.rules.specs.Commands.{Command, arriving, sliding, serving, Arrival, next}
 use Rattle.rules.specs.Run.{after}
 use Rattle.rules.specs.Sound.{Right}
+use Rattle.rules.proofs.Level.{Level}
 use Rattle.rules.proofs.Put.{Put, here, there, put_last, put_length}
 use Rattle.rules.proofs.Rule.{stays_light, choice_turned, choice_evicted, evicted_only}
 use Rattle.rules.proofs.Sharing.{Fair, right_fair, newest_id, most, two_fewer, heaviest_evicted}
@@ -50,10 +51,6 @@ pub others_kept : (h : ℕ) (w : List Request) → 1 ≤ count h w → (i : ℕ)
 others_kept h w c i n =
     let p = count_put (newest_put h w c) i in
     omega (arith, rw (ne_eqb (newest h w).id i (λ e. n (sym e ∙ newest_id h w c))) at p)
-
--- client j would have the largest count at least, with one request more, in a full window
-abbrev pub Level : ℕ → Limits → Waiting → Type 0
-Level j L s = (full L s ≡ true) × (largest_count s ≤ count j s.window + 1)
 
 -- such a client is turned away
 pub level_turned : (j : ℕ) (L : Limits) (s : Waiting) → Level j L s → choice L s j ≡ turned

@@ -23,6 +23,7 @@ pub mod Staying
 pub mod Sharing
 pub mod Steps
 pub mod Run
+pub mod Level
 pub mod Evicting
 pub mod Moved
 pub mod Written
