@@ -1,7 +1,7 @@
 -- What is shown: the words of the listing, the room that the lines take, and both of them put.
 use mathlib.Core.Bool.{Bool, true, false, cond}
 use mathlib.Core.List.{List, [], ◌∷◌}
-use mathlib.Core.Path.{◌≡◌, refl, sym, ap, ◌∙◌}
+use mathlib.Core.Path.{◌≡◌, refl, sym}
 use Prim.Native.Nat.{ℕ, suc, ◌+◌, ◌*◌, ◌^◌, ◌≤◌, ◌<◌}
 use native.Mathlib.Omega.{arith}
 use lib.ListN.{length, get_or, take, length-append}
@@ -18,9 +18,8 @@ use Rattle.answers.specs.declared.Listed.TheVariants as answer
 use Rattle.answers.specs.Numbers.{replayed_numbers}
 use Rattle.answers.specs.Engine.{listing}
 use Rattle.answers.specs.Offered.{refusal_on, listed_of}
-use Rattle.questions.specs.Output.{listed_words}
 use Rattle.limiter.specs.Lent.{waiting_in}
-use Rattle.limiter.specs.Questions.{listed_answer, listed_out}
+use Rattle.limiter.specs.Questions.{listed_answer}
 use Rattle.page.specs.Put.{Room, Put}
 use Rattle.page.proofs.Begun.{begin, begun_end}
 use Rattle.page.proofs.Long.{Words, filled_most, form_room}
