@@ -1,2 +1,3 @@
 -- Laws of the answers.
 pub mod Found
+pub mod Numbered

@@ -1,17 +1,13 @@
 -- What an engine answers for what the plain history says.
-use Rattle.std.specs.Prelude.{cond, ℕ, ◌*◌, ltb}
+use Rattle.std.specs.Prelude.{cond, ℕ, ◌*◌, ltb, Option, Some, None, Result, Ok, Err}
 use Rattle.rules.specs.Rows.{has}
 use Rattle.rules.specs.History as history
 use Rattle.rules.specs.History.{Waiting, given}
+use Rattle.answers.specs.declared.Refusal.{Refusal}
+use Rattle.answers.specs.declared.Refusal.TheVariants as refusals
 use Rattle.answers.specs.declared.Request.{Request}
 use Rattle.answers.specs.declared.Choice.{Choice}
 use Rattle.answers.specs.declared.Choice.TheVariants as choices
-use Rattle.answers.specs.declared.Left.{Left}
-use Rattle.answers.specs.declared.Left.TheVariants as lefts
-use Rattle.answers.specs.declared.Listing.{Listing}
-use Rattle.answers.specs.declared.Listing.TheVariants as listings
-use Rattle.answers.specs.declared.OwnTicket.{OwnTicket}
-use Rattle.answers.specs.declared.OwnTicket.TheVariants as tickets
 
 -- a request as the code holds it, and back
 abbrev pub as_struct : history.Request → Request
@@ -27,18 +23,18 @@ as_choice (history.evicted r) = choices.Evicted (as_struct r)
 as_choice history.turned = choices.Turned
 
 -- the request that left, if one did
-abbrev pub as_left : history.Left → Left
-as_left history.nothing = lefts.Nothing
-as_left (history.left r) = lefts.One (as_struct r)
+abbrev pub as_left : history.Left → Option Request
+as_left history.nothing = None
+as_left (history.left r) = Some (as_struct r)
 
 -- the words that min(k, clients) pairs take
 abbrev pub needed : ℕ → Waiting → ℕ
 needed k s = 2 * given k s
 
--- a listing of k clients into an output of n words
-abbrev pub listing : ℕ → ℕ → Waiting → Listing
-listing k n s = cond (ltb n (needed k s)) listings.NoRoom (listings.Pairs (given k s))
+-- a listing of k clients into an output of n words: how many pairs were written, or that it has no room for them
+abbrev pub listing : ℕ → ℕ → Waiting → Result ℕ Refusal
+listing k n s = cond (ltb n (needed k s)) (Err refusals.NoRoom) (Ok (given k s))
 
--- a ticket of client i
-abbrev pub own_ticket : (Waiting → ℕ → ℕ) → Waiting → ℕ → OwnTicket
-own_ticket ticket s i = cond (has i s.order) (tickets.Ticket (ticket s i)) tickets.NoClient
+-- a ticket of client i, or that there is no such client
+abbrev pub own_ticket : (Waiting → ℕ → ℕ) → Waiting → ℕ → Result ℕ Refusal
+own_ticket ticket s i = cond (has i s.order) (Ok (ticket s i)) (Err refusals.NoClient)

@@ -1,63 +1,47 @@
--- An engine's answer as the call offers it, and the refusals.
-use Rattle.std.specs.Prelude.{cond, List, ℕ, get_or}
+-- An engine's answer as the call offers it, and the refusals and stops by their numbers.
+use Rattle.std.specs.Prelude.{cond, List, ℕ, eqb, get_or, Option, Result, Ok, Err}
+use Rattle.std.specs.Option.{ok_or}
 use Rattle.table.specs.Kind as kind
 use Rattle.rules.specs.Numbers as number
 use Rattle.rules.specs.Verdict.{verdict, accepts}
 use Rattle.answers.specs.declared.Refusal.{Refusal}
-use Rattle.answers.specs.declared.Opened.{Opened}
-use Rattle.answers.specs.declared.Opened.TheVariants as opened
-use Rattle.answers.specs.declared.Choice.{Choice}
-use Rattle.answers.specs.declared.Choice.TheVariants as choices
-use Rattle.answers.specs.declared.Left.{Left}
-use Rattle.answers.specs.declared.Left.TheVariants as lefts
-use Rattle.answers.specs.declared.Listing.{Listing}
-use Rattle.answers.specs.declared.Listing.TheVariants as listings
-use Rattle.answers.specs.declared.OwnTicket.{OwnTicket}
-use Rattle.answers.specs.declared.OwnTicket.TheVariants as tickets
-use Rattle.answers.specs.declared.Arrived.{Arrived}
-use Rattle.answers.specs.declared.Arrived.TheVariants as arrived
-use Rattle.answers.specs.declared.Slid.{Slid}
-use Rattle.answers.specs.declared.Slid.TheVariants as slid
-use Rattle.answers.specs.declared.Served.{Served}
-use Rattle.answers.specs.declared.Served.TheVariants as served
-use Rattle.answers.specs.declared.Listed.{Listed}
-use Rattle.answers.specs.declared.Listed.TheVariants as listed
-use Rattle.answers.specs.declared.Told.{Told}
-use Rattle.answers.specs.declared.Told.TheVariants as told
+use Rattle.answers.specs.declared.Refusal.TheVariants as refusals
+use Rattle.answers.specs.declared.Request.{Request}
+use Rattle.answers.specs.declared.Stop.{Stop}
+use Rattle.answers.specs.declared.Stop.TheVariants as stops
 
--- the refusal with a number
+-- the refusal with a number; no call asks for it of a number that is none
 abbrev pub refusal : ℕ → Refusal
-refusal n = record { number = n }
+refusal n =
+    cond (eqb n number.out_of_range) refusals.OutOfRange
+    (cond (eqb n number.too_short) refusals.TooShort
+    (cond (eqb n number.unsound) refusals.Unsound
+    (cond (eqb n number.no_room) refusals.NoRoom
+    (cond (eqb n number.nobody_waits) refusals.NobodyWaits
+    (cond (eqb n number.no_client) refusals.NoClient
+    (cond (eqb n number.overlong) refusals.Overlong
+    (cond (eqb n number.full) refusals.Full
+    (cond (eqb n number.short_block) refusals.ShortBlock
+    (cond (eqb n number.wrong_check) refusals.WrongCheck
+    (cond (eqb n number.wrong_number) refusals.WrongNumber
+    (cond (eqb n number.wrong_use) refusals.WrongUse refusals.BadRecorded)))))))))))
+
+-- where a run stops, and where a replay does, by the number
+abbrev pub run_stop : ℕ → Stop
+run_stop n =
+    cond (eqb n number.ended) stops.Ended (cond (eqb n number.spent) stops.Spent (cond (eqb n number.cut) stops.Cut stops.BadCommand))
+
+abbrev pub replay_stop : ℕ → Stop
+replay_stop n = cond (eqb n number.ended) stops.Ended (stops.Block (refusal n))
 
 -- why words are refused
 abbrev pub refusal_on : List ℕ → Refusal
 refusal_on t = refusal (verdict t)
 
--- what every call but lay-out finds in the words that it is lent: a table of their Q, or why it is refused
-abbrev pub opened_on : List ℕ → Opened
-opened_on t = cond (accepts t) (opened.Table (get_or t kind.places_at 0)) (opened.Refused (refusal_on t))
-
--- being turned away is a reply
-abbrev pub arrived_of : Choice → Arrived
-arrived_of choices.Joined = arrived.Joined
-arrived_of (choices.Evicted r) = arrived.Evicted r
-arrived_of choices.Turned = arrived.Turned
-
-abbrev pub slid_of : Left → Slid
-slid_of lefts.Nothing = slid.Joined
-slid_of (lefts.One r) = slid.Passed r
+-- what every call but lay-out finds in the words that it is lent: the Q of a table, or why they are refused
+abbrev pub opened_on : List ℕ → Result ℕ Refusal
+opened_on t = cond (accepts t) (Ok (get_or t kind.places_at 0)) (Err (refusal_on t))
 
 -- where nobody waits a serve is refused
-abbrev pub served_of : Left → Served
-served_of lefts.Nothing = served.Refused (refusal number.nobody_waits)
-served_of (lefts.One r) = served.Left r
-
--- an output without room is refused
-abbrev pub listed_of : Listing → Listed
-listed_of (listings.Pairs n) = listed.Number n
-listed_of listings.NoRoom = listed.Refused (refusal number.no_room)
-
--- and the ticket of a client that is not there
-abbrev pub told_of : OwnTicket → Told
-told_of (tickets.Ticket x) = told.Ticket x
-told_of tickets.NoClient = told.Refused (refusal number.no_client)
+abbrev pub served_of : Option Request → Result Request Refusal
+served_of left = ok_or left refusals.NobodyWaits

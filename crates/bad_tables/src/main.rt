@@ -10,31 +10,19 @@ use std::rt::Files;
 // Room for the longest file.
 const TEXT: usize = 65_536;
 
-// A line of one of the two files.
-fn line(rt: &impl Print, s: &[u8], room: bool) {
-    if room {
-        room::line(rt, s);
-    } else {
-        damage::line(rt, s);
-    }
-}
-
-fn lines(rt: &impl Print, s: &[u8], room: bool) {
-    let mut at = 0;
-    while at < s.len() {
-        let end = report::find(s, at, b'\n');
-        line(rt, &s[at..end], room);
-        at = end + 1;
-    }
-}
-
-fn file(rt: &(impl Files + Print), path: &[u8], room: bool) {
+// Reads a file, and takes a step at each of its lines.
+fn each_line<F: FnMut(&[u8])>(rt: &impl Files, path: &[u8], step: F)
+    requires { F.IsAlwaysCallable step }
+{
     let mut text = [0u8; TEXT];
     let n = report::load(rt, path, &mut text);
-    lines(rt, &text[..n], room);
+    text[..n]
+        .split_inclusive(|b| *b == b'\n')
+        .map(|line| line.strip_suffix(b"\n").unwrap_or(line))
+        .for_each(step);
 }
 
 fn main(rt: HostRuntime) {
-    file(&rt, b"damage.txt", false);
-    file(&rt, b"room.txt", true);
+    each_line(&rt, b"damage.txt", |line| damage::line(&rt, line));
+    each_line(&rt, b"room.txt", |line| room::line(&rt, line));
 }

@@ -7,7 +7,7 @@ ghost use Rattle.table.specs.Regions.{altered};
 ghost use Rattle.rules.specs.History as history;
 ghost use Rattle.rules.specs.Steps as steps;
 ghost use Rattle.rules.specs.Verdict.{lay_out_number, laid_out, afterwards};
-ghost use Rattle.answers.specs.Numbers.{arrived_numbers, slid_numbers, served_numbers, listed_numbers, counted_numbers, told_numbers, ran_numbers, replayed_numbers};
+ghost use Rattle.answers.specs.Numbers.{ran_numbers, replayed_numbers};
 ghost use Rattle.day.specs.Day.{after_run};
 ghost use Rattle.limiter.specs.Lent.{waiting_in, numbers_of};
 ghost use Rattle.limiter.specs.Questions.{listed_answer, listed_out, listed_number, counted_answer, counted_number, told_answer, told_number};
@@ -16,14 +16,14 @@ ghost use Rattle.limiter.specs.Runs.{run_answer, run_words, replay_answer, repla
 ghost use Rattle.recorder.specs.Record.{record_number, record_block};
 ghost use Rattle.boomspool.specs.Replies.{words_of, arrived_struct, arrived_fields, slid_struct, slid_fields, served_struct, served_fields, listed_struct, listed_fields, counted_struct, counted_fields, told_struct, told_fields, report_struct, ran_struct, ran_fields, replay_struct, replayed_struct, replayed_fields};
 
-use answers::{Arrived, Counted, Listed, Ran, Replay, Replayed, Report, Served, Slid, Told};
+use answers::{Choice, Refusal, Replay, Report, Request};
 use day::Day;
 use recording::Block;
 use table::{LinkedTable, Ticket};
 
 // The reply to an arrival: what happened, and the request that left for it.
 #[repr(C)]
-#[derive(Clone, Copy)]
+#[derive(Clone, Copy, Debug, Default, PartialEq, Eq)]
 pub struct BoomspoolArrived {
     pub number: u32,
     pub happened: u32,
@@ -33,7 +33,7 @@ pub struct BoomspoolArrived {
 
 // The reply to a slide: whether a request passed, and which.
 #[repr(C)]
-#[derive(Clone, Copy)]
+#[derive(Clone, Copy, Debug, Default, PartialEq, Eq)]
 pub struct BoomspoolSlid {
     pub number: u32,
     pub passed: u32,
@@ -43,7 +43,7 @@ pub struct BoomspoolSlid {
 
 // The reply to serve: the request that left.
 #[repr(C)]
-#[derive(Clone, Copy)]
+#[derive(Clone, Copy, Debug, Default, PartialEq, Eq)]
 pub struct BoomspoolServed {
     pub number: u32,
     pub id: u32,
@@ -52,7 +52,7 @@ pub struct BoomspoolServed {
 
 // The reply to a listing: how many pairs were written.
 #[repr(C)]
-#[derive(Clone, Copy)]
+#[derive(Clone, Copy, Debug, Default, PartialEq, Eq)]
 pub struct BoomspoolListed {
     pub number: u32,
     pub pairs: usize,
@@ -60,7 +60,7 @@ pub struct BoomspoolListed {
 
 // The reply to count.
 #[repr(C)]
-#[derive(Clone, Copy)]
+#[derive(Clone, Copy, Debug, Default, PartialEq, Eq)]
 pub struct BoomspoolCounted {
     pub number: u32,
     pub count: u32,
@@ -68,7 +68,7 @@ pub struct BoomspoolCounted {
 
 // The reply to oldest and newest.
 #[repr(C)]
-#[derive(Clone, Copy)]
+#[derive(Clone, Copy, Debug, Default, PartialEq, Eq)]
 pub struct BoomspoolTold {
     pub number: u32,
     pub ticket: Ticket,
@@ -76,7 +76,7 @@ pub struct BoomspoolTold {
 
 // What a run reports: where it stopped, how many commands it carried out, and the six totals.
 #[repr(C)]
-#[derive(Clone, Copy)]
+#[derive(Clone, Copy, Debug, Default, PartialEq, Eq)]
 pub struct BoomspoolRan {
     pub stop: u32,
     pub done: u64,
@@ -90,7 +90,7 @@ pub struct BoomspoolRan {
 
 // What a replay reports: where it stopped, how many blocks it replayed and commands it carried out, and the six totals.
 #[repr(C)]
-#[derive(Clone, Copy)]
+#[derive(Clone, Copy, Debug, Default, PartialEq, Eq)]
 pub struct BoomspoolReplayed {
     pub stop: u32,
     pub blocks: u64,
@@ -103,200 +103,177 @@ pub struct BoomspoolReplayed {
     pub idle: u64,
 }
 
-// An answer of the limiter as the struct that C gets, for each call.
-fn arrived_reply(a: Arrived) -> BoomspoolArrived
-    ensures reply { result ≡ arrived_struct a }
-    ensures numbers { arrived_fields result ≡ arrived_numbers a }
-{
-    match a {
-        Arrived::Joined => BoomspoolArrived {
-            number: 0,
-            happened: 1,
-            id: 0,
-            ticket: 0,
-        },
-        Arrived::Evicted(gone) => BoomspoolArrived {
-            number: 0,
-            happened: 2,
-            id: gone.id,
-            ticket: gone.ticket,
-        },
-        Arrived::Turned => BoomspoolArrived {
-            number: 0,
-            happened: 3,
-            id: 0,
-            ticket: 0,
-        },
-        Arrived::Refused(r) => BoomspoolArrived {
-            number: r.number,
-            happened: 0,
-            id: 0,
-            ticket: 0,
-        },
+// The answers of the limiter's calls as the structs that C gets. The numbers of `happened` and `passed` are the C interface (include/boomspool.h).
+
+impl From<Result<Choice, Refusal>> for BoomspoolArrived {
+    ghost from_gives = { λ answer reply. reply ≡ arrived_struct answer };
+
+    fn from(answer: Result<Choice, Refusal>) -> BoomspoolArrived {
+        match answer {
+            Ok(Choice::Joined) => BoomspoolArrived {
+                happened: 1,
+                ..BoomspoolArrived::default()
+            },
+            Ok(Choice::Evicted(Request { id, ticket })) => BoomspoolArrived {
+                number: 0,
+                happened: 2,
+                id,
+                ticket,
+            },
+            Ok(Choice::Turned) => BoomspoolArrived {
+                happened: 3,
+                ..BoomspoolArrived::default()
+            },
+            Err(refusal) => BoomspoolArrived {
+                number: u32::from(refusal),
+                ..BoomspoolArrived::default()
+            },
+        }
     }
 }
 
-fn slid_reply(a: Slid) -> BoomspoolSlid
-    ensures reply { result ≡ slid_struct a }
-    ensures numbers { slid_fields result ≡ slid_numbers a }
-{
-    match a {
-        Slid::Joined => BoomspoolSlid {
-            number: 0,
-            passed: 0,
-            id: 0,
-            ticket: 0,
-        },
-        Slid::Passed(front) => BoomspoolSlid {
-            number: 0,
-            passed: 1,
-            id: front.id,
-            ticket: front.ticket,
-        },
-        Slid::Refused(r) => BoomspoolSlid {
-            number: r.number,
-            passed: 0,
-            id: 0,
-            ticket: 0,
-        },
+impl From<Result<Option<Request>, Refusal>> for BoomspoolSlid {
+    ghost from_gives = { λ answer reply. reply ≡ slid_struct answer };
+
+    fn from(answer: Result<Option<Request>, Refusal>) -> BoomspoolSlid {
+        match answer {
+            Ok(None) => BoomspoolSlid::default(),
+            Ok(Some(Request { id, ticket })) => BoomspoolSlid {
+                number: 0,
+                passed: 1,
+                id,
+                ticket,
+            },
+            Err(refusal) => BoomspoolSlid {
+                number: u32::from(refusal),
+                ..BoomspoolSlid::default()
+            },
+        }
     }
 }
 
-fn served_reply(a: Served) -> BoomspoolServed
-    ensures reply { result ≡ served_struct a }
-    ensures numbers { served_fields result ≡ served_numbers a }
-{
-    match a {
-        Served::Left(first) => BoomspoolServed {
-            number: 0,
-            id: first.id,
-            ticket: first.ticket,
-        },
-        Served::Refused(r) => BoomspoolServed {
-            number: r.number,
-            id: 0,
-            ticket: 0,
-        },
+impl From<Result<Request, Refusal>> for BoomspoolServed {
+    ghost from_gives = { λ answer reply. reply ≡ served_struct answer };
+
+    fn from(answer: Result<Request, Refusal>) -> BoomspoolServed {
+        match answer {
+            Ok(Request { id, ticket }) => BoomspoolServed {
+                number: 0,
+                id,
+                ticket,
+            },
+            Err(refusal) => BoomspoolServed {
+                number: u32::from(refusal),
+                ..BoomspoolServed::default()
+            },
+        }
     }
 }
 
-fn listed_reply(a: Listed) -> BoomspoolListed
-    ensures reply { result ≡ listed_struct a }
-    ensures numbers { listed_fields result ≡ listed_numbers a }
-{
-    match a {
-        Listed::Number(n) => BoomspoolListed {
-            number: 0,
-            pairs: n,
-        },
-        Listed::Refused(r) => BoomspoolListed {
-            number: r.number,
-            pairs: 0,
-        },
+impl From<Result<usize, Refusal>> for BoomspoolListed {
+    ghost from_gives = { λ answer reply. reply ≡ listed_struct answer };
+
+    fn from(answer: Result<usize, Refusal>) -> BoomspoolListed {
+        match answer {
+            Ok(pairs) => BoomspoolListed { number: 0, pairs },
+            Err(refusal) => BoomspoolListed {
+                number: u32::from(refusal),
+                pairs: 0,
+            },
+        }
     }
 }
 
-fn counted_reply(a: Counted) -> BoomspoolCounted
-    ensures reply { result ≡ counted_struct a }
-    ensures numbers { counted_fields result ≡ counted_numbers a }
-{
-    match a {
-        Counted::Number(n) => BoomspoolCounted {
-            number: 0,
-            count: n,
-        },
-        Counted::Refused(r) => BoomspoolCounted {
-            number: r.number,
-            count: 0,
-        },
+impl From<Result<u32, Refusal>> for BoomspoolCounted {
+    ghost from_gives = { λ answer reply. reply ≡ counted_struct answer };
+
+    fn from(answer: Result<u32, Refusal>) -> BoomspoolCounted {
+        match answer {
+            Ok(count) => BoomspoolCounted { number: 0, count },
+            Err(refusal) => BoomspoolCounted {
+                number: u32::from(refusal),
+                count: 0,
+            },
+        }
     }
 }
 
-fn told_reply(a: Told) -> BoomspoolTold
-    ensures reply { result ≡ told_struct a }
-    ensures numbers { told_fields result ≡ told_numbers a }
-{
-    match a {
-        Told::Ticket(n) => BoomspoolTold {
-            number: 0,
-            ticket: n,
-        },
-        Told::Refused(r) => BoomspoolTold {
-            number: r.number,
-            ticket: 0,
-        },
+impl From<Result<Ticket, Refusal>> for BoomspoolTold {
+    ghost from_gives = { λ answer reply. reply ≡ told_struct answer };
+
+    fn from(answer: Result<Ticket, Refusal>) -> BoomspoolTold {
+        match answer {
+            Ok(ticket) => BoomspoolTold { number: 0, ticket },
+            Err(refusal) => BoomspoolTold {
+                number: u32::from(refusal),
+                ticket: 0,
+            },
+        }
     }
 }
 
-fn reported(r: Report) -> BoomspoolRan
-    ensures { result ≡ report_struct r }
-{
-    BoomspoolRan {
-        stop: r.stop,
-        done: r.done,
-        joined: r.joined,
-        evicted: r.evicted,
-        passed: r.passed,
-        served: r.served,
-        turned: r.turned,
-        idle: r.idle,
+impl From<Report> for BoomspoolRan {
+    ghost from_gives = { λ report reply. reply ≡ report_struct report };
+
+    fn from(report: Report) -> BoomspoolRan {
+        BoomspoolRan {
+            stop: u32::from(report.stop),
+            done: report.done,
+            joined: report.joined,
+            evicted: report.evicted,
+            passed: report.passed,
+            served: report.served,
+            turned: report.turned,
+            idle: report.idle,
+        }
     }
 }
 
 // A refused run reports its number in the stop's place, and nothing carried out.
-fn ran_reply(a: Ran) -> BoomspoolRan
-    ensures reply { result ≡ ran_struct a }
-    ensures numbers { ran_fields result ≡ ran_numbers a }
-{
-    match a {
-        Ran::Reported(r) => reported(r),
-        Ran::Refused(r) => BoomspoolRan {
-            stop: r.number,
-            done: 0,
-            joined: 0,
-            evicted: 0,
-            passed: 0,
-            served: 0,
-            turned: 0,
-            idle: 0,
-        },
+impl From<Result<Report, Refusal>> for BoomspoolRan {
+    ghost from_gives = { λ answer reply. reply ≡ ran_struct answer };
+
+    fn from(answer: Result<Report, Refusal>) -> BoomspoolRan {
+        match answer {
+            Ok(report) => BoomspoolRan::from(report),
+            Err(refusal) => BoomspoolRan {
+                stop: u32::from(refusal),
+                ..BoomspoolRan::default()
+            },
+        }
     }
 }
 
-fn replayed(r: Replay) -> BoomspoolReplayed
-    ensures { result ≡ replay_struct r }
-{
-    BoomspoolReplayed {
-        stop: r.report.stop,
-        blocks: r.blocks,
-        done: r.report.done,
-        joined: r.report.joined,
-        evicted: r.report.evicted,
-        passed: r.report.passed,
-        served: r.report.served,
-        turned: r.report.turned,
-        idle: r.report.idle,
+impl From<Replay> for BoomspoolReplayed {
+    ghost from_gives = { λ replay reply. reply ≡ replay_struct replay };
+
+    fn from(replay: Replay) -> BoomspoolReplayed {
+        BoomspoolReplayed {
+            stop: u32::from(replay.report.stop),
+            blocks: replay.blocks,
+            done: replay.report.done,
+            joined: replay.report.joined,
+            evicted: replay.report.evicted,
+            passed: replay.report.passed,
+            served: replay.report.served,
+            turned: replay.report.turned,
+            idle: replay.report.idle,
+        }
     }
 }
 
 // A refused replay likewise.
-fn replayed_reply(a: Replayed) -> BoomspoolReplayed
-    ensures reply { result ≡ replayed_struct a }
-    ensures numbers { replayed_fields result ≡ replayed_numbers a }
-{
-    match a {
-        Replayed::Reported(r) => replayed(r),
-        Replayed::Refused(x) => BoomspoolReplayed {
-            stop: x.number,
-            blocks: 0,
-            done: 0,
-            joined: 0,
-            evicted: 0,
-            passed: 0,
-            served: 0,
-            turned: 0,
-            idle: 0,
-        },
+impl From<Result<Replay, Refusal>> for BoomspoolReplayed {
+    ghost from_gives = { λ answer reply. reply ≡ replayed_struct answer };
+
+    fn from(answer: Result<Replay, Refusal>) -> BoomspoolReplayed {
+        match answer {
+            Ok(replay) => BoomspoolReplayed::from(replay),
+            Err(refusal) => BoomspoolReplayed {
+                stop: u32::from(refusal),
+                ..BoomspoolReplayed::default()
+            },
+        }
     }
 }
 
@@ -318,7 +295,7 @@ pub extern "C" fn boomspool_lay_out(t: &mut [u32], q: usize) -> u32
     ensures number { result ≡ lay_out_number q (length t.old) }
     ensures words { t.new ≡ laid_out q t.old }
 {
-    layout::lay_out(t, q)
+    answers::number(layout::lay_out(t, q))
 }
 
 // A request arrives: it joins, a request of the heaviest client leaves for it, or its client is turned away.
@@ -329,7 +306,7 @@ pub extern "C" fn boomspool_arrive(t: &mut [u32], id: u32, ticket: Ticket) -> Bo
     ensures words { t.new ≡ afterwards (λ P. steps.arrived P id ticket) t.old }
     ensures few { altered t.old t.new ≤ 47 }
 {
-    arrived_reply(limiter::arrive(t, id, ticket))
+    limiter::arrive(t, id, ticket).into()
 }
 
 // A request joins; where the window is full, the front request passes first.
@@ -340,7 +317,7 @@ pub extern "C" fn boomspool_slide(t: &mut [u32], id: u32, ticket: Ticket) -> Boo
     ensures words { t.new ≡ afterwards (λ P. steps.slid P id ticket) t.old }
     ensures few { altered t.old t.new ≤ 48 }
 {
-    slid_reply(limiter::slide(t, id, ticket))
+    limiter::slide(t, id, ticket).into()
 }
 
 // The front request leaves and is the reply.
@@ -351,7 +328,7 @@ pub extern "C" fn boomspool_serve(t: &mut [u32]) -> BoomspoolServed
     ensures words { t.new ≡ afterwards (steps.served) t.old }
     ensures few { altered t.old t.new ≤ 24 }
 {
-    served_reply(limiter::serve(t))
+    limiter::serve(t).into()
 }
 
 // Id and count of the k heaviest clients, heaviest first.
@@ -361,7 +338,7 @@ pub extern "C" fn boomspool_heaviest(t: &[u32], k: usize, out: &mut [u32]) -> Bo
     ensures numbers { listed_fields result ≡ numbers_of (listed_number k (length out.old) t.now) (history.given k (waiting_in t.now) ∷ []) }
     ensures words { out.new ≡ listed_out history.heaviest k t.now out.old }
 {
-    listed_reply(limiter::heaviest(t, k, out))
+    limiter::heaviest(t, k, out).into()
 }
 
 // Id and count of the k lightest clients, lightest first.
@@ -371,7 +348,7 @@ pub extern "C" fn boomspool_lightest(t: &[u32], k: usize, out: &mut [u32]) -> Bo
     ensures numbers { listed_fields result ≡ numbers_of (listed_number k (length out.old) t.now) (history.given k (waiting_in t.now) ∷ []) }
     ensures words { out.new ≡ listed_out history.lightest k t.now out.old }
 {
-    listed_reply(limiter::lightest(t, k, out))
+    limiter::lightest(t, k, out).into()
 }
 
 // How many requests of that client wait.
@@ -380,7 +357,7 @@ pub extern "C" fn boomspool_count(t: &[u32], id: u32) -> BoomspoolCounted
     ensures reply { result ≡ counted_struct (counted_answer id t.now) }
     ensures numbers { counted_fields result ≡ numbers_of (counted_number t.now) (history.count_of (waiting_in t.now) id ∷ []) }
 {
-    counted_reply(limiter::count(t, id))
+    limiter::count(t, id).into()
 }
 
 // The ticket of that client's oldest request.
@@ -389,7 +366,7 @@ pub extern "C" fn boomspool_oldest(t: &[u32], id: u32) -> BoomspoolTold
     ensures reply { result ≡ told_struct (told_answer history.oldest_ticket id t.now) }
     ensures numbers { told_fields result ≡ numbers_of (told_number id t.now) (history.oldest_ticket (waiting_in t.now) id ∷ []) }
 {
-    told_reply(limiter::oldest(t, id))
+    limiter::oldest(t, id).into()
 }
 
 // The ticket of its newest.
@@ -398,7 +375,7 @@ pub extern "C" fn boomspool_newest(t: &[u32], id: u32) -> BoomspoolTold
     ensures reply { result ≡ told_struct (told_answer history.newest_ticket id t.now) }
     ensures numbers { told_fields result ≡ numbers_of (told_number id t.now) (history.newest_ticket (waiting_in t.now) id ∷ []) }
 {
-    told_reply(limiter::newest(t, id))
+    limiter::newest(t, id).into()
 }
 
 // Carries out commands of nine bytes until one of the four stops; the table is checked once.
@@ -408,7 +385,7 @@ pub extern "C" fn boomspool_run(t: &mut [u32], commands: &[u8], budget: u64) -> 
     ensures numbers { ran_fields result ≡ ran_numbers (run_answer budget commands.now t.old) }
     ensures words { t.new ≡ run_words budget commands.now t.old }
 {
-    ran_reply(limiter::run(t, commands, budget))
+    limiter::run(t, commands, budget).into()
 }
 
 // The same, and the day record is brought up to date where it stands; a refused run leaves it.
@@ -424,9 +401,9 @@ pub extern "C" fn boomspool_run_day(
     ensures words { t.new ≡ run_words budget commands.now t.old }
     ensures totals { day.new ≡ after_run day.old (run_answer budget commands.now t.old) }
 {
-    let r = limiter::run(t, commands, budget);
-    day::bring_up(day, r);
-    ran_reply(r)
+    let answer = limiter::run(t, commands, budget);
+    day::bring_up(day, answer);
+    answer.into()
 }
 
 // Records one command more in the block in the making, after so many: the number.
@@ -441,7 +418,7 @@ pub extern "C" fn boomspool_record(
     ensures number { result ≡ record_number recorded kind id ticket }
     ensures bytes { block.new ≡ record_block recorded kind id ticket block.old }
 {
-    recorder::record(block, recorded, kind, id, ticket)
+    answers::number(recorder::record(block, recorded, kind, id, ticket))
 }
 
 // Replays the blocks of a recording, of which the first must have that number, until one fails a test; the table is checked once.
@@ -451,5 +428,5 @@ pub extern "C" fn boomspool_replay(t: &mut [u32], recording: &[u8], first: u64) 
     ensures numbers { replayed_fields result ≡ replayed_numbers (replay_answer first recording.now t.old) }
     ensures words { t.new ≡ replay_words first recording.now t.old }
 {
-    replayed_reply(limiter::replay(t, recording, first))
+    limiter::replay(t, recording, first).into()
 }

@@ -24,11 +24,8 @@ fn argument(rt: &(impl Env + Files + Print), i: usize) {
 }
 
 fn main(rt: HostRuntime) {
-    let n = report::argument_count(&rt);
-    let mut i = 1;
-    while i < n {
+    for i in 1..report::argument_count(&rt) {
         argument(&rt, i);
-        i += 1;
     }
     listing::all(&rt);
     running::all(&rt);

@@ -1,17 +1,20 @@
 // Budgets, each on a fresh table.
 use crate::listing::{Q, SIZE};
-use answers::{Ran, Report};
+use answers::Report;
 use std::rt::Files;
 
 fn line(rt: &impl Print, r: Report) {
-    report::word(rt, b" stop ", r.stop);
-    report::field(rt, b" done ", r.done);
-    report::field(rt, b" joined ", r.joined);
-    report::field(rt, b" evicted ", r.evicted);
-    report::field(rt, b" passed ", r.passed);
-    report::field(rt, b" served ", r.served);
-    report::field(rt, b" turned ", r.turned);
-    report::field(rt, b" idle ", r.idle);
+    let _ = print!(rt;
+        " stop {} done {} joined {} evicted {} passed {} served {} turned {} idle {}",
+        u32::from(r.stop),
+        r.done,
+        r.joined,
+        r.evicted,
+        r.passed,
+        r.served,
+        r.turned,
+        r.idle,
+    );
 }
 
 // Runs the commands of a printer's input, whatever its Q, with a budget.
@@ -19,13 +22,13 @@ fn run(rt: &(impl Files + Print), name: &[u8], budget: u64) {
     let mut t = [0u32; SIZE];
     let mut input = [0u8; 128];
     let n = report::load(rt, name, &mut input);
-    layout::lay_out(&mut t, Q);
+    let _ = layout::lay_out(&mut t, Q);
     report::text(rt, name);
     report::field(rt, b", budget ", budget);
-    if 2 <= n {
-        match limiter::run(&mut t, &input[2..n], budget) {
-            Ran::Reported(r) => line(rt, r),
-            Ran::Refused(x) => report::word(rt, b" refused ", x.number),
+    if let Some(commands) = input.get(2..n) {
+        match limiter::run(&mut t, commands, budget) {
+            Ok(r) => line(rt, r),
+            Err(refusal) => report::field(rt, b" refused ", u32::from(refusal)),
         }
     }
     report::text(rt, b"\n");

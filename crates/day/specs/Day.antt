@@ -1,8 +1,7 @@
 -- The day record: totals that stay at the largest 64-bit value once there.
-use Rattle.std.specs.Prelude.{cond, List, [], ◌∷◌, ℕ, ◌+◌, leb}
+use Rattle.std.specs.Prelude.{cond, List, [], ◌∷◌, ℕ, ◌+◌, leb, Result, Ok, Err}
+use Rattle.answers.specs.declared.Refusal.{Refusal}
 use Rattle.answers.specs.declared.Report.{Report}
-use Rattle.answers.specs.declared.Ran.{Ran}
-use Rattle.answers.specs.declared.Ran.TheVariants as ran
 
 -- the largest value of a total
 abbrev pub largest : ℕ
@@ -23,6 +22,6 @@ added (d ∷ ds) [] = d ∷ ds
 added (d ∷ ds) (m ∷ ms) = sum_of d m ∷ added ds ms
 
 -- the record after a run; a run that was refused leaves it
-abbrev pub after_run : List ℕ → Ran → List ℕ
-after_run d (ran.Reported r) = added d (totals_of r)
-after_run d (ran.Refused x) = d
+abbrev pub after_run : List ℕ → Result Report Refusal → List ℕ
+after_run d (Ok r) = added d (totals_of r)
+after_run d (Err x) = d

@@ -2,9 +2,10 @@
 #![tactic(auto)]
 
 ghost use Rattle.std.specs.Prelude.{◌≡◌};
-ghost use Rattle.day.specs.Day.{sum_of, totals_of, added, after_run};
+ghost use Rattle.day.specs.Day.{totals_of, added, after_run};
 
-use answers::{Ran, Report};
+use answers::{Refusal, Report};
+use std::array;
 
 #[derive(Clone, Copy)]
 pub struct Day {}
@@ -12,20 +13,6 @@ pub struct Day {}
 impl Day {
     // How many totals it has: joined, evicted, passed, served, turned away, idle.
     pub const TOTALS: usize = 6;
-
-    // The largest value of a total.
-    pub const LARGEST: u64 = 18446744073709551615;
-}
-
-// The sum of two totals, or the largest value where it would be passed.
-fn sum(a: u64, b: u64) -> u64
-    ensures { result ≡ sum_of a b }
-{
-    if b <= Day::LARGEST - a {
-        a + b
-    } else {
-        Day::LARGEST
-    }
 }
 
 // The totals of a report, as the record has them.
@@ -39,23 +26,14 @@ fn totals(r: Report) -> [u64; Day::TOTALS]
 fn add(day: [u64; Day::TOTALS], more: [u64; Day::TOTALS]) -> [u64; Day::TOTALS]
     ensures { result ≡ added day more }
 {
-    let mut sums = day;
-    let mut k = 0;
-    while k < Day::TOTALS {
-        sums[k] = sum(sums[k], more[k]);
-        k += 1;
-    }
-    sums
+    array::from_fn(|k| day[k].saturating_add(more[k]))
 }
 
 // Brings the record up to date where it stands; a run that was refused leaves it.
-pub fn bring_up(day: &mut [u64; Day::TOTALS], r: Ran)
+pub fn bring_up(day: &mut [u64; Day::TOTALS], r: Result<Report, Refusal>)
     ensures { day.new ≡ after_run day.old r }
 {
-    match r {
-        Ran::Reported(report) => {
-            *day = add(*day, totals(report));
-        }
-        Ran::Refused(_) => {}
+    if let Ok(report) = r {
+        *day = add(*day, totals(report));
     }
 }

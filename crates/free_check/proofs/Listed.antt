@@ -2,7 +2,7 @@
 use mathlib.Core.List.{List, [], ◌∷◌}
 use mathlib.Core.Path.{◌≡◌, sym, subst}
 use mathlib.Core.Logic.{◌↔◌}
-use Prim.Native.Nat.{ℕ, ◌-◌, ◌≤◌, ◌<◌}
+use Prim.Native.Nat.{ℕ, ◌+◌, ◌-◌, ◌≤◌, ◌<◌}
 use native.Mathlib.Omega.{arith}
 use Rattle.free_check.specs.Listed.{Listed}
 
@@ -23,6 +23,10 @@ module _ (n : ℕ) (F : List ℕ → Type 0) {W : Type 0} (so : Listed n F ↔ W
       go : Listed n F → F []
       go ([], e, f) = f
       go (r ∷ rs, e, f) = absurd (omega arith)
+
+-- after turn k one row less is left
+pub one_less : (n k : ℕ) → n - (k + 1) ≡ n - k - 1
+one_less n k = omega arith
 
 -- the row is as it has to be, so the rest is what is left
 pub left_over : {S C W : Type 0} → (S × C) ↔ W → S → C ↔ W

@@ -16,18 +16,12 @@ pub struct Rows {
 }
 
 // Whether every word of the row is 0 but the one that chains free rows.
-fn blank(t: &[u32], row: usize, width: usize, link: usize) -> bool
-    requires { row + width ≤ length t.now }
-    ensures { Tells result (Blank width link (λ f. get_or t.now (row + f) 0)) }
+fn blank(row: &[u32], link: usize) -> bool
+    ensures { Tells result (Blank (length row.now) link (λ f. get_or row.now f 0)) }
 {
-    let mut f: usize = 0;
-    while f < width {
-        if f != link && t[row + f] != 0 {
-            return false;
-        }
-        f += 1;
-    }
-    true
+    row.iter()
+        .enumerate()
+        .all(|(f, word)| f == link || *word == 0)
 }
 
 // Whether the chain of free rows from `first` on has n rows, all blank, and then ends.
@@ -35,23 +29,20 @@ pub fn free_rows(t: &[u32], rows: Rows, q: usize, first: u32, n: usize) -> bool
     requires { Fit q rows t.now }
     ensures { Tells result (Free q rows.width rows.link (words_of rows.from rows.width t.now) first n) }
 {
-    let from = rows.from;
-    let width = rows.width;
-    let link = rows.link;
+    let Rows { from, width, link } = rows;
     // Rows are compared in the 32 bits that they have in the table.
     let past = q as u32;
-    let mut rest = n;
     let mut at = first;
-    while 0 < rest {
+    for _ in 0..n {
         if past <= at {
             return false;
         }
-        let row = from + width * (at as usize);
-        if !blank(t, row, width, link) {
+        let start = from + width * (at as usize);
+        let row = &t[start..start + width];
+        if !blank(row, link) {
             return false;
         }
-        at = t[row + link];
-        rest -= 1;
+        at = row[link];
     }
     at == LinkedTable::NONE
 }

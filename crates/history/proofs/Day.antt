@@ -8,16 +8,16 @@ use native.Mathlib.Omega.{arith}
 use lib.Dec.{leb}
 use lib.ListN.{length, take}
 use borrow.Author.Tests.{le-leb, lt-leb}
-use Rattle.rules.specs.Numbers as number
+use Rattle.std.specs.Prelude.{Result, Ok, Err}
 use Rattle.rules.specs.Rows.{All}
 use Rattle.rules.specs.Commands.{Outcome}
 use Rattle.rules.specs.Run.{carried, outcomes, Totals, total}
 use Rattle.rules.specs.Sound.{Right}
 use Rattle.rules.specs.Verdict.{lay_out_number, laid_out}
 use Rattle.rules.proofs.Run.{total_append}
-use Rattle.answers.specs.Offered.{refusal}
-use Rattle.answers.specs.declared.Ran.{Ran}
-use Rattle.answers.specs.declared.Ran.TheVariants as run_tells
+use Rattle.answers.specs.declared.Refusal.{Refusal}
+use Rattle.answers.specs.declared.Refusal.TheVariants as refusals
+use Rattle.answers.specs.declared.Report.{Report}
 use Rattle.layout.proofs.After.{laid_is}
 use Rattle.run.specs.Runs.{report_of}
 use Rattle.day.specs.Day.{largest, sum_of, added, after_run}
@@ -62,7 +62,7 @@ added_nothing (f ∷ fs) [] a = refl
 added_nothing (f ∷ fs) (x ∷ d) a = ap₂ (λ (y : ℕ) (l : List ℕ). y ∷ l) (capped_none largest x a.0) (added_nothing fs d a.1)
 
 -- one call: the record d with these outcomes more has then those that the call records more
-ran_so : {x y : Ran} → ran x ≡ ran y → x ≡ y
+ran_so : {x y : Result Report Refusal} → ran x ≡ ran y → x ≡ y
 ran_so e = cc
 
 module _ (d : List ℕ) (os : List Outcome) where
@@ -72,11 +72,11 @@ module _ (d : List ℕ) (os : List Outcome) where
   none_brought : Brought (added d (day_totals os)) []
   none_brought = ap (λ (l : List Outcome). added d (day_totals l)) (sym (append-nil os))
 
-  run_brought : (few : Bool) {x : Ran} (s : State) (bytes : List ℕ) (budget n : ℕ)
-      → ran x ≡ cond few (ran (run_tells.Refused (refusal n))) (ran (run_tells.Reported (report_of s.limits s.waiting budget bytes)))
+  run_brought : (few : Bool) {x : Result Report Refusal} (s : State) (bytes : List ℕ) (budget : ℕ) (r : Refusal)
+      → ran x ≡ cond few (ran (Err r)) (ran (Ok (report_of s.limits s.waiting budget bytes)))
       → Brought (after_run (added d (day_totals os)) x) (cond few [] (outcomes s.limits s.waiting (carried budget bytes)))
-  run_brought true s bytes budget n e = ap (after_run (added d (day_totals os))) (ran_so e) ∙ none_brought
-  run_brought false s bytes budget n e =
+  run_brought true s bytes budget r e = ap (after_run (added d (day_totals os))) (ran_so e) ∙ none_brought
+  run_brought false s bytes budget r e =
       ap (after_run (added d (day_totals os))) (ran_so e) ∙ added_twice os (outcomes s.limits s.waiting (carried budget bytes)) in_order d
 
   call_brought : (S : Slice) → Right S.picture → (l : Lent)
@@ -86,7 +86,7 @@ module _ (d : List ℕ) (os : List Outcome) where
       go : (c : Call) (w : ℕ) → Brought (day_step c (added d (day_totals os)) (take w (drawn_out S))) (recorded_by (min w (length (drawn_out S))) (state_of S) c)
       go (carry c) w = none_brought
       go (run true bytes budget) w =
-          run_brought (short (min w (length (drawn_out S))) (state_of S)) (state_of S) bytes budget number.too_short (comes S v (lent w (run true bytes budget))).answers
+          run_brought (short (min w (length (drawn_out S))) (state_of S)) (state_of S) bytes budget refusals.TooShort (comes S v (lent w (run true bytes budget))).answers
       go (run false bytes budget) w = none_brought
       go (replay bytes first) w = none_brought
       go (ask x) w = none_brought

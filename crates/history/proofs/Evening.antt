@@ -1,6 +1,6 @@
 -- An evening. Replaying what the recorder wrote, from an equal lay-out, leaves the table that the recorded commands left as single calls, word for word, and reports their number and totals. With one byte altered, or two unequal ones exchanged among the first 508 of a block, it stops at that block with 21: the commands of earlier blocks stand, and none of that block's is carried out.
 use mathlib.Core.List.{List, [], ◌∷◌}
-use mathlib.Core.Path.{◌≡◌, sym, ap, ◌∙◌, subst}
+use mathlib.Core.Path.{◌≡◌, refl, sym, ap, ◌∙◌, subst}
 use Prim.Native.Nat.{ℕ, ◌+◌, ◌*◌, ◌/◌, ◌≤◌, ◌<◌}
 use native.Mathlib.Omega.{arith}
 use lib.ListN.{length, get_or, set, take}
@@ -11,6 +11,9 @@ use Rattle.rules.specs.Commands.{Command}
 use Rattle.rules.specs.Run.{outcomes}
 use Rattle.rules.specs.Verdict.{lay_out_number, laid_out}
 use Rattle.rules.proofs.Run.{outcomes_length}
+use Rattle.answers.specs.Numbers.{stop_number}
+use Rattle.answers.specs.declared.Refusal.TheVariants as refusals
+use Rattle.answers.specs.declared.Stop.TheVariants as stops
 use Rattle.recording.specs.Kind as kind
 use Rattle.recording.specs.Block.{AllFit, blocks_for, exchanged}
 use Rattle.recording.specs.Replay.{pieces}
@@ -30,6 +33,10 @@ block_of place = place / kind.block_bytes
 
 abbrev pub place_in : ℕ → ℕ → ℕ
 place_in j p = kind.block_bytes * j + p
+
+-- the two stops that are reported below, by their numbers
+pub stops_numbered : (stop_number stops.Ended ≡ number.ended) × (stop_number (stops.Block refusals.WrongCheck) ≡ number.wrong_check)
+stops_numbered = (refl, refl)
 
 -- the recorder's calls, one after the other, from nothing and with any block at first
 module _ (b : List ℕ) (calls : List Asked) where
@@ -63,7 +70,7 @@ module _ (b : List ℕ) (calls : List Asked) where
     replay_leaves n = replays_leave q w laid [] file 0 ends n
 
     -- lent the table, it reports that it came to the end, the blocks, and the number and totals of what those commands came to
-    pub replay_reports : (n : ℕ) → table.size q ≤ n → reply (replay file 0) (take n (laid_out q w)) ≡ reports number.ended (blocks_for (length cs)) (outcomes (limits q) nobody cs)
+    pub replay_reports : (n : ℕ) → table.size q ≤ n → reply (replay file 0) (take n (laid_out q w)) ≡ reports stops.Ended (blocks_for (length cs)) (outcomes (limits q) nobody cs)
     replay_reports n h = replays_reported q w laid [] file 0 ends n h
 
     -- and the same table as in any other slice with an equal lay-out, where each call is lent the table
@@ -82,7 +89,7 @@ module _ (b : List ℕ) (calls : List Asked) where
       altered_leaves n = replays_leave q w laid [] (set file place v) 0 altered n
 
       pub altered_reported : (n : ℕ) → table.size q ≤ n
-          → reply (replay (set file place v) 0) (take n (laid_out q w)) ≡ reports number.wrong_check (block_of place) (outcomes (limits q) nobody (earlier (block_of place)))
+          → reply (replay (set file place v) 0) (take n (laid_out q w)) ≡ reports (stops.Block refusals.WrongCheck) (block_of place) (outcomes (limits q) nobody (earlier (block_of place)))
       altered_reported n h = replays_reported q w laid [] (set file place v) 0 altered n h
 
     -- two unequal bytes of block j exchanged, of those that its check is of
@@ -90,13 +97,13 @@ module _ (b : List ℕ) (calls : List Asked) where
       abbrev pub other : List ℕ
       other = exchanged (place_in j p) (place_in j r) file
 
-      stops : Replays 0 (pieces other) number.wrong_check j (earlier j)
-      stops =
+      stopped : Replays 0 (pieces other) number.wrong_check j (earlier j)
+      stopped =
           subst (λ (s : List ℕ). (get_or s (place_in j p) 0 ≡ get_or s (place_in j r) 0 → ⊥) → Replays 0 (pieces (exchanged (place_in j p) (place_in j r) s)) number.wrong_check j (earlier j)) (sym (the_file b calls))
           (exchanged_stops cs fits few j p r inside hp hr) unequal
 
       pub exchanged_leaves : (n : ℕ) → table_after (lent n (replay other 0) ∷ []) (laid_out q w) ≡ table_after (singles n (earlier j)) (laid_out q w)
-      exchanged_leaves n = replays_leave q w laid [] other 0 stops n
+      exchanged_leaves n = replays_leave q w laid [] other 0 stopped n
 
-      pub exchanged_reported : (n : ℕ) → table.size q ≤ n → reply (replay other 0) (take n (laid_out q w)) ≡ reports number.wrong_check j (outcomes (limits q) nobody (earlier j))
-      exchanged_reported n h = replays_reported q w laid [] other 0 stops n h
+      pub exchanged_reported : (n : ℕ) → table.size q ≤ n → reply (replay other 0) (take n (laid_out q w)) ≡ reports (stops.Block refusals.WrongCheck) j (outcomes (limits q) nobody (earlier j))
+      exchanged_reported n h = replays_reported q w laid [] other 0 stopped n h

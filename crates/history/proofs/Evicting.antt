@@ -4,6 +4,7 @@ use mathlib.Core.List.{List, [], ◌∷◌, ◌++◌}
 use mathlib.Core.Path.{◌≡◌, refl, sym, ap, ◌∙◌, subst}
 use Prim.Native.Nat.{ℕ, ◌≤◌, min}
 use lib.ListN.{length, take}
+use Rattle.std.specs.Prelude.{Ok, Err}
 use Rattle.rules.specs.Rows.{All}
 use Rattle.rules.specs.History as history
 use Rattle.rules.specs.History.{Request, Waiting, Limits, Choice, request, count, choice}
@@ -20,9 +21,8 @@ use Rattle.rules.proofs.Evicting as evicting
 use Rattle.rules.proofs.Level.{Level}
 use Rattle.rules.proofs.Evicting.{level_turned, evicted_level, level_after}
 use Rattle.answers.specs.Engine.{as_choice}
-use Rattle.answers.specs.Offered.{arrived_of}
 use Rattle.answers.specs.declared.Request as code
-use Rattle.answers.specs.declared.Arrived.TheVariants as tells
+use Rattle.answers.specs.declared.Choice.TheVariants as choices
 use Rattle.history.specs.Plain.{Call, carry, run, replay, ask, lay_out, Lent, lent, arrived, says, State, state, short, said_of, carried_by, plain_next}
 use Rattle.history.specs.Words.{reply, table_after, Slice, state_of, fresh, carried_in, picture_step, picture_next, picture_after}
 use Rattle.history.specs.Sharing.{waiting, OnlyArrivals}
@@ -93,7 +93,7 @@ module _ (q : ℕ) (w : List ℕ) (laid : lay_out_number q (length w) ≡ 0) (ca
         ap of_choice (level_turned x.id there.limits (after there.limits since cs) l)
 
   -- with n words lent r arrives, and is answered that x left
-  module _ (r : Request) (n : ℕ) (x : code.Request) (e : reply (carry (arriving r)) (take n (table_after calls (laid_out q w))) ≡ arrived (tells.Evicted x)) where
+  module _ (r : Request) (n : ℕ) (x : code.Request) (e : reply (carry (arriving r)) (take n (table_after calls (laid_out q w))) ≡ arrived (Ok (choices.Evicted x))) where
     abbrev now : State
     now = history-after.history q w calls
 
@@ -136,8 +136,8 @@ module _ (q : ℕ) (w : List ℕ) (laid : lay_out_number q (length w) ≡ 0) (ca
     -- while these carry out nothing but arrivals, the evicted client is turned away when it arrives; with too few words it is refused as ever
     pub never_in_turn : (later : List Lent) → All (λ l. OnlyArrivals l.call) later → (m ticket : ℕ)
         → reply (carry (arriving (request x.id ticket))) (take m (table_after (calls ++ first ∷ later) (laid_out q w)))
-        ≡ said_of (min m (length w)) (later_on later) (says (λ x. arrived (tells.Refused x)) (λ L s. arrived tells.Turned))
+        ≡ said_of (min m (length w)) (later_on later) (says (λ x. arrived (Err x)) (λ L s. arrived (Ok choices.Turned)))
     never_in_turn later a m ticket =
         let s : State = later_on later in
         next_reply q w laid (calls ++ first ∷ later) (lent m (carry (arriving (request x.id ticket))))
-        ∙ ap (λ (c : Choice). said_of (min m (length w)) s (says (λ x. arrived (tells.Refused x)) (λ L s. arrived (arrived_of (as_choice c))))) (level_turned x.id s.limits s.waiting (later_level later a))
+        ∙ ap (λ (c : Choice). said_of (min m (length w)) s (says (λ x. arrived (Err x)) (λ L s. arrived (Ok (as_choice c))))) (level_turned x.id s.limits s.waiting (later_level later a))

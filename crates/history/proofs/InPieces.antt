@@ -8,6 +8,7 @@ use native.Mathlib.Omega.{arith}
 use native.Mathlib.Nat.{min-le_left, min-eq_left}
 use lib.ListN.{length, take, drop, length-take, drop_of_length-le}
 use lib.Seq.{take_at, drop_at, take_all}
+use Rattle.std.specs.Prelude.{Result, Ok, Err}
 use Rattle.rules.specs.History.{Waiting, Limits}
 use Rattle.rules.specs.Picture.{Picture, limits_of, plain}
 use Rattle.rules.specs.Commands.{Command}
@@ -17,10 +18,10 @@ use Rattle.rules.specs.Sound.{Right}
 use Rattle.rules.specs.Verdict.{accepts, afterwards}
 use Rattle.rules.proofs.Run.{all_step, outcomes_append, next_all_append}
 use Rattle.rules.proofs.Verdict.{drawn_accepted, drawn_found, drawn_after}
+use Rattle.answers.specs.Offered as offered
+use Rattle.answers.specs.declared.Refusal.{Refusal}
 use Rattle.answers.specs.declared.Report.{Report}
 use Rattle.answers.specs.declared.Replay.{Replay}
-use Rattle.answers.specs.declared.Replayed.{Replayed}
-use Rattle.answers.specs.declared.Replayed.TheVariants as tells
 use Rattle.recording.specs.Kind as kind
 use Rattle.recording.specs.Replay as recording
 use Rattle.recording.specs.Replay.{pieces, replay_stop, replay_blocks}
@@ -40,10 +41,10 @@ abbrev told : ℕ → Report → Replay
 told blocks report = record { blocks = blocks; report = report }
 
 -- two answers, one behind the other: a refusal, or the blocks and the reports added up, with the second's stop
-abbrev pub both_answers : Replayed → Replayed → Replayed
-both_answers (tells.Refused x) b = tells.Refused x
-both_answers (tells.Reported a) (tells.Refused x) = tells.Refused x
-both_answers (tells.Reported a) (tells.Reported b) = tells.Reported (told (a.blocks + b.blocks) (both_of a.report b.report))
+abbrev pub both_answers : Result Replay Refusal → Result Replay Refusal → Result Replay Refusal
+both_answers (Err x) b = Err x
+both_answers (Ok a) (Err x) = Err x
+both_answers (Ok a) (Ok b) = Ok (told (a.blocks + b.blocks) (both_of a.report b.report))
 
 -- the next call that is lent as many words finds those that this one leaves
 lent_again : (n : ℕ) (c : Call) (t : List ℕ) → (take n (slice_after (lent n c) t) ≡ words c (take n t)) × (drop n (slice_after (lent n c) t) ≡ drop n t)
@@ -81,7 +82,7 @@ module _ (cs ds : List Command) where
       refused : (t : List ℕ) → accepts t ≡ false → afterwards all t ≡ afterwards second (afterwards first t)
       refused t n = refused_stay all t n ∙ sym (ap (afterwards second) (refused_stay first t n) ∙ refused_stay second t n)
 
-drawn_answer : (P : Picture) → Right P → (rest : List ℕ) (first : ℕ) (s : List ℕ) → replay_answer first s (draw P ++ rest) ≡ tells.Reported (replay_from P first s)
+drawn_answer : (P : Picture) → Right P → (rest : List ℕ) (first : ℕ) (s : List ℕ) → replay_answer first s (draw P ++ rest) ≡ Ok (replay_from P first s)
 drawn_answer P v rest first s = rw (drawn_accepted P v rest, drawn_found P v rest)
 
 -- the pieces s, of k whole blocks, and u
@@ -107,9 +108,10 @@ module _ (first k : ℕ) (s u : List ℕ) (whole : length s ≡ kind.block_bytes
     reported_twice : (L : Limits) (w : Waiting)
         → replay_of L w first (s ++ u) ≡ told (replay_blocks first s + replay_blocks (first + k) u) (both_of (replay_of L w first s).report (replay_of L (after L w cs) (first + k) u).report)
     reported_twice L w =
-        (λ i. told (at_once.blocks i) (totalled (at_once.stop i) (outcomes L w (at_once.commands i))))
+        (λ i. told (at_once.blocks i) (totalled (offered.replay_stop (at_once.stop i)) (outcomes L w (at_once.commands i))))
         ∙ ap (told (replay_blocks first s + replay_blocks (first + k) u))
-        (ap (totalled (replay_stop (first + k) u)) (outcomes_append L w cs ds) ∙ sym (both_totalled (replay_stop first s) (replay_stop (first + k) u) (outcomes L w cs) (outcomes L (after L w cs) ds)))
+        (ap (totalled (offered.replay_stop (replay_stop (first + k) u))) (outcomes_append L w cs ds)
+        ∙ sym (both_totalled (offered.replay_stop (replay_stop first s)) (offered.replay_stop (replay_stop (first + k) u)) (outcomes L w cs) (outcomes L (after L w cs) ds)))
 
     answered_twice : (t : List ℕ) → replay_answer first (s ++ u) t ≡ both_answers (replay_answer first s t) (replay_answer (first + k) u (replay_words first s t))
     answered_twice = on_any (λ t. replay_answer first (s ++ u) t ≡ both_answers (replay_answer first s t) (replay_answer (first + k) u (replay_words first s t))) drawing refused
@@ -118,11 +120,11 @@ module _ (first k : ℕ) (s u : List ℕ) (whole : length s ≡ kind.block_bytes
             → (let t : List ℕ = draw P ++ rest in replay_answer first (s ++ u) t ≡ both_answers (replay_answer first s t) (replay_answer (first + k) u (replay_words first s t)))
         drawing P v rest =
             let step = all_step P v cs in
-            let second : replay_answer (first + k) u (replay_words first s (draw P ++ rest)) ≡ tells.Reported (replay_of (limits_of P) (after (limits_of P) (plain P) cs) (first + k) u) =
+            let second : replay_answer (first + k) u (replay_words first s (draw P ++ rest)) ≡ Ok (replay_of (limits_of P) (after (limits_of P) (plain P) cs) (first + k) u) =
             ap (replay_answer (first + k) u) (drawn_after P v rest (λ P. next_all P cs))
             ∙ drawn_answer (next_all P cs) step.right rest (first + k) u
-            ∙ (λ i. tells.Reported (replay_of (step.limits i) (step.plain i) (first + k) u)) in
-            drawn_answer P v rest first (s ++ u) ∙ ap tells.Reported (reported_twice (limits_of P) (plain P)) ∙ sym (ap₂ both_answers (drawn_answer P v rest first s) second)
+            ∙ (λ i. Ok (replay_of (step.limits i) (step.plain i) (first + k) u)) in
+            drawn_answer P v rest first (s ++ u) ∙ ap Ok (reported_twice (limits_of P) (plain P)) ∙ sym (ap₂ both_answers (drawn_answer P v rest first s) second)
 
         refused : (t : List ℕ) → accepts t ≡ false → replay_answer first (s ++ u) t ≡ both_answers (replay_answer first s t) (replay_answer (first + k) u (replay_words first s t))
         refused t n = rw n
@@ -143,5 +145,5 @@ module _ (first k : ℕ) (s u : List ℕ) (whole : length s ≡ kind.block_bytes
     pub stopped_report : (n : ℕ) (t : List ℕ) → replay_answer first (s ++ u) (take n t) ≡ replay_answer first s (take n t)
     stopped_report n t =
         let lent : List ℕ = take n t in
-        λ i. or_refused tells.Refused lent
-        (tells.Reported (told (stops.blocks i) (totalled (stops.stop i) (outcomes (limits_in lent) (waiting_in lent) (stops.commands i)))))
+        λ i. or_refused Err lent
+        (Ok (told (stops.blocks i) (totalled (offered.replay_stop (stops.stop i)) (outcomes (limits_in lent) (waiting_in lent) (stops.commands i)))))

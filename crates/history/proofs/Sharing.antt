@@ -5,6 +5,7 @@ use mathlib.Core.Path.{◌≡◌, refl, sym, ap, ◌∙◌, subst}
 use Prim.Native.Nat.{ℕ, ◌+◌, ◌*◌, ◌≤◌, min}
 use native.Mathlib.Omega.{arith}
 use lib.ListN.{length, take}
+use Rattle.std.specs.Prelude.{Ok, Err}
 use Rattle.rules.specs.History as history
 use Rattle.rules.specs.History.{Request, Choice, request, count, choice}
 use Rattle.rules.specs.Commands as commands
@@ -14,10 +15,9 @@ use Rattle.rules.specs.Verdict.{lay_out_number, laid_out}
 use Rattle.rules.proofs.Sharing.{Fair, right_fair, turned_share, evicted_share}
 use Rattle.rules.proofs.Run.{all_step, outcomes_append}
 use Rattle.answers.specs.Engine.{as_choice, as_struct}
-use Rattle.answers.specs.Offered.{arrived_of}
 use Rattle.answers.specs.declared.Request as code
 use Rattle.answers.specs.declared.Refusal.{Refusal}
-use Rattle.answers.specs.declared.Arrived.TheVariants as tells
+use Rattle.answers.specs.declared.Choice.TheVariants as choices
 use Rattle.history.specs.Plain.{Call, carry, Lent, lent, arrived, State, state, short, carried_by}
 use Rattle.history.specs.Words.{reply, table_after}
 use Rattle.history.specs.Sharing.{waiting, Under}
@@ -26,9 +26,9 @@ use Rattle.history.proofs.History as history-after
 use Rattle.history.proofs.History.{left, the_state, the_right, next_reply}
 
 -- what replies and outcomes say of the choice
-chosen_turned : (b : Bool) (x : Refusal) (c : Choice) → cond b (arrived (tells.Refused x)) (arrived (arrived_of (as_choice c))) ≡ arrived tells.Turned → c ≡ history.turned
-chosen_turned true x c e = let z : ◌≡◌ {A = ℕ} 0 1 = cc in absurd (omega arith)
-chosen_turned false x c e = turned_away_lem c (cc)
+chosen_turned : (b : Bool) (x : Refusal) (c : Choice) → cond b (arrived (Err x)) (arrived (Ok (as_choice c))) ≡ arrived (Ok choices.Turned) → c ≡ history.turned
+chosen_turned true x c e = absurd cc
+chosen_turned false x c e = turned_away_lem c cc
 
 -- enough words were lent, and the request that left
 pub record Gone (b : Bool) (c : Choice) (i : ℕ) : Type 0 where
@@ -37,23 +37,23 @@ pub record Gone (b : Bool) (c : Choice) (i : ℕ) : Type 0 where
   pub is : c ≡ history.evicted request
   pub named : request.id ≡ i
 
-pub chosen_evicted : (b : Bool) (x : Refusal) (c : Choice) (r : code.Request) → cond b (arrived (tells.Refused x)) (arrived (arrived_of (as_choice c))) ≡ arrived (tells.Evicted r) → Gone b c r.id
-chosen_evicted true x c r e = let z : ◌≡◌ {A = ℕ} 0 1 = cc in absurd (omega arith)
-chosen_evicted false x history.joined r e = let z : ◌≡◌ {A = ℕ} 0 1 = cc in absurd (omega arith)
+pub chosen_evicted : (b : Bool) (x : Refusal) (c : Choice) (r : code.Request) → cond b (arrived (Err x)) (arrived (Ok (as_choice c))) ≡ arrived (Ok (choices.Evicted r)) → Gone b c r.id
+chosen_evicted true x c r e = absurd cc
+chosen_evicted false x history.joined r e = absurd cc
 chosen_evicted false x (history.evicted y) r e =
     let same : as_struct y ≡ r = cc in
     record { enough = refl; request = y; is = refl; named = ap (λ (z : code.Request). z.id) same }
-chosen_evicted false x history.turned r e = let z : ◌≡◌ {A = ℕ} 0 1 = cc in absurd (omega arith)
+chosen_evicted false x history.turned r e = absurd cc
 
 outcome_turned : (c : Choice) → of_choice c ≡ commands.turned → c ≡ history.turned
-outcome_turned history.joined e = let z : ◌≡◌ {A = ℕ} 0 1 = cc in absurd (omega arith)
-outcome_turned (history.evicted r) e = let z : ◌≡◌ {A = ℕ} 0 1 = cc in absurd (omega arith)
+outcome_turned history.joined e = absurd cc
+outcome_turned (history.evicted r) e = absurd cc
 outcome_turned history.turned e = refl
 
 pub outcome_evicted : (c : Choice) (r : Request) → of_choice c ≡ commands.evicted r → c ≡ history.evicted r
-outcome_evicted history.joined r e = let z : ◌≡◌ {A = ℕ} 0 1 = cc in absurd (omega arith)
+outcome_evicted history.joined r e = absurd cc
 outcome_evicted (history.evicted x) r e = let same : x ≡ r = cc in ap history.evicted same
-outcome_evicted history.turned r e = let z : ◌≡◌ {A = ℕ} 0 1 = cc in absurd (omega arith)
+outcome_evicted history.turned r e = absurd cc
 
 -- where its requests and one more are under, it is not turned away; where its requests are, none of them is evicted
 module _ (s : State) (fair : Fair s.waiting) (i : ℕ) where
@@ -75,14 +75,14 @@ module _ (q : ℕ) (w : List ℕ) (laid : lay_out_number q (length w) ≡ 0) (ca
 
   -- with any number of words lent, a client is not turned away
   pub never_turned_away : (i : ℕ) → Under (waiting i now + 1) now → (n ticket : ℕ)
-      → reply (carry (arriving (request i ticket))) (take n (table_after calls (laid_out q w))) ≡ arrived tells.Turned → ⊥
+      → reply (carry (arriving (request i ticket))) (take n (table_after calls (laid_out q w))) ≡ arrived (Ok choices.Turned) → ⊥
   never_turned_away i under n ticket e =
       not_turned now now_fair i under
       (chosen_turned (short (min n (length w)) now) _ _ (sym (next_reply q w laid calls (lent n (carry (arriving (request i ticket))))) ∙ e))
 
   -- and whoever arrives, none of its requests is evicted
   pub never_evicted : (i : ℕ) → Under (waiting i now) now → (j n ticket : ℕ) (r : code.Request)
-      → reply (carry (arriving (request j ticket))) (take n (table_after calls (laid_out q w))) ≡ arrived (tells.Evicted r) → r.id ≡ i → ⊥
+      → reply (carry (arriving (request j ticket))) (take n (table_after calls (laid_out q w))) ≡ arrived (Ok (choices.Evicted r)) → r.id ≡ i → ⊥
   never_evicted i under j n ticket r e named =
       let g = chosen_evicted (short (min n (length w)) now) _ _ r (sym (next_reply q w laid calls (lent n (carry (arriving (request j ticket))))) ∙ e) in
       not_evicted now now_fair i under j g.request g.is (g.named ∙ named)

@@ -22,6 +22,7 @@ use Rattle.limiter.proofs.slide.Reads as slide
 use Rattle.limiter.proofs.serve.Reads as serve
 use Rattle.limiter.proofs.run.Reads as run
 use Rattle.limiter.proofs.replay.Reads as replay
+use Rattle.answers.specs.Numbers.{done_number}
 use Rattle.limiter.specs.Runs.{run_answer}
 use Rattle.recorder.specs.Record.{record_block}
 use Rattle.recorder.specs.Evening.{Asked, Evening, number_of, record_step}
@@ -55,7 +56,8 @@ run_tied day κs a r s p = both (ap ran p.0) p.1
 pub replay_tied : (κs : Lfts 2) → Tied {O = Reply × List ℕ} (replay.Post κs) (λ r s. (replayed r, s.0.now)) (λ a. comes_to (plain.replay a.1.0.now a.1.1.0) a.0.now)
 replay_tied κs a r s p = both (ap replayed p.0) p.1
 
-pub lay_out_tied : (κs : Lfts 1) → Tied {O = Reply × List ℕ} (lay-out.Post κs) (λ r s. (laid r, s.0.now)) (λ a. comes_to (lay_out a.1.0) a.0.now)
+-- a lay-out answers nothing but its refusal, by the number, which tells it (`done_once`); so does the recorder below
+pub lay_out_tied : (κs : Lfts 1) → Tied {O = Reply × List ℕ} (lay-out.Post κs) (λ r s. (laid (done_number r), s.0.now)) (λ a. comes_to (lay_out a.1.0) a.0.now)
 lay_out_tied κs a r s p = both (ap laid p.0) p.1
 
 -- the questions, and the listings' output
@@ -99,5 +101,5 @@ unfolding record_block
 block_after e a = block_kept (eqb (number_of e.recorded a) 0) _ _ _ e
 
 pub record_tied : (κs : Lfts 1) (file : List ℕ)
-    → Tied {O = ℕ × List ℕ} (recorder.Post κs) (λ r s. (r, s.0.now)) (λ a. records_to (host_of file a.0.now a.1.0) (asked_of a.1.1.0 a.1.1.1.0 a.1.1.1.1.0))
+    → Tied {O = ℕ × List ℕ} (recorder.Post κs) (λ r s. (done_number r, s.0.now)) (λ a. records_to (host_of file a.0.now a.1.0) (asked_of a.1.1.0 a.1.1.1.0 a.1.1.1.1.0))
 record_tied κs file a r s p = both p.0 (p.1 ∙ block_after (host_of file a.0.now a.1.0) (asked_of a.1.1.0 a.1.1.1.0 a.1.1.1.1.0))

@@ -1,19 +1,14 @@
 -- The whiteboard's entries as calls with their replies, and when a case of its table is right of the calls.
-use Rattle.std.specs.Prelude.{List, [], ◌∷◌, ◌++◌, map, ◌≡◌, ℕ, ◌*◌, ◌/◌, length, replicate, drop}
+use Rattle.std.specs.Prelude.{List, [], ◌∷◌, ◌++◌, map, ◌≡◌, ℕ, ◌*◌, ◌/◌, length, replicate, drop, Some, None, Ok, Err}
 use Rattle.table.specs.Kind as kind
-use Rattle.rules.specs.Numbers as number
 use Rattle.rules.specs.Commands as rules
 use Rattle.rules.specs.Commands.{Command, arriving, sliding, serving, Outcome}
 use Rattle.rules.specs.Verdict.{laid_out}
 use Rattle.rules.specs.Cases as table
 use Rattle.rules.specs.Cases.{Entry, comes, lists, tickets, Case}
 use Rattle.answers.specs.Engine.{as_struct}
-use Rattle.answers.specs.Offered.{refusal}
-use Rattle.answers.specs.declared.Arrived.TheVariants as arrive_tells
-use Rattle.answers.specs.declared.Slid.TheVariants as slide_tells
-use Rattle.answers.specs.declared.Served.TheVariants as serve_tells
-use Rattle.answers.specs.declared.Listed.TheVariants as list_tells
-use Rattle.answers.specs.declared.Told.TheVariants as ticket_tells
+use Rattle.answers.specs.declared.Refusal.TheVariants as refusals
+use Rattle.answers.specs.declared.Choice.TheVariants as choices
 use Rattle.history.specs.Plain.{heaviest, oldest, newest, Call, carry, ask, lay_out, Lent, lent, Reply, arrived, slid, served, listed, told, laid}
 use Rattle.history.specs.Words.{reply, replies, table_after}
 
@@ -27,18 +22,18 @@ asked c r = record { call = c; reply = r }
 
 -- the reply to an arrive or a slide whose request joins and none leaves; no serve comes to that
 abbrev joined_reply : Command → Reply
-joined_reply (arriving r) = arrived arrive_tells.Joined
-joined_reply (sliding r) = slid slide_tells.Joined
-joined_reply serving = arrived arrive_tells.Joined
+joined_reply (arriving r) = arrived (Ok choices.Joined)
+joined_reply (sliding r) = slid (Ok None)
+joined_reply serving = arrived (Ok choices.Joined)
 
 -- the reply to a command, by what it comes to
 abbrev outcome_reply : Command → Outcome → Reply
 outcome_reply c rules.joined = joined_reply c
-outcome_reply c (rules.evicted r) = arrived (arrive_tells.Evicted (as_struct r))
-outcome_reply c rules.turned = arrived arrive_tells.Turned
-outcome_reply c (rules.passed r) = slid (slide_tells.Passed (as_struct r))
-outcome_reply c (rules.served r) = served (serve_tells.Left (as_struct r))
-outcome_reply c rules.idle = served (serve_tells.Refused (refusal number.nobody_waits))
+outcome_reply c (rules.evicted r) = arrived (Ok (choices.Evicted (as_struct r)))
+outcome_reply c rules.turned = arrived (Ok choices.Turned)
+outcome_reply c (rules.passed r) = slid (Ok (Some (as_struct r)))
+outcome_reply c (rules.served r) = served (Ok (as_struct r))
+outcome_reply c rules.idle = served (Err refusals.NobodyWaits)
 
 -- an output of zeros that has room for all clients of q places
 abbrev output : ℕ → List ℕ
@@ -47,8 +42,8 @@ output q = replicate (2 * q) 0
 -- an entry on a table of q places: the command; heaviest q; oldest and newest
 abbrev entry_asked : ℕ → Entry → List Asked
 entry_asked q (comes c o) = asked (carry c) (outcome_reply c o) ∷ []
-entry_asked q (lists l) = asked (ask (heaviest q (output q))) (listed (list_tells.Number (length l / 2)) (l ++ drop (length l) (output q))) ∷ []
-entry_asked q (tickets i a b) = asked (ask (oldest i)) (told (ticket_tells.Ticket a)) ∷ asked (ask (newest i)) (told (ticket_tells.Ticket b)) ∷ []
+entry_asked q (lists l) = asked (ask (heaviest q (output q))) (listed (Ok (length l / 2)) (l ++ drop (length l) (output q))) ∷ []
+entry_asked q (tickets i a b) = asked (ask (oldest i)) (told (Ok a)) ∷ asked (ask (newest i)) (told (Ok b)) ∷ []
 
 abbrev pub all_asked : ℕ → List Entry → List Asked
 all_asked q [] = []

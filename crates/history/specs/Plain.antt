@@ -1,31 +1,19 @@
 -- The calls on one slice of words, and the plain history over them: what each is answered, and who waits after it within which limits. It knows nothing of rows.
-use Rattle.std.specs.Prelude.{Bool, cond, List, [], ◌∷◌, map, ℕ, min, eqb, ltb, length}
+use Rattle.std.specs.Prelude.{Bool, cond, List, [], ◌∷◌, map, ℕ, min, eqb, ltb, length, Option, Result, Ok, Err}
 use Rattle.table.specs.Kind as kind
-use Rattle.rules.specs.Numbers as number
 use Rattle.rules.specs.History as history
 use Rattle.rules.specs.History.{Waiting, Limits, nobody}
 use Rattle.rules.specs.Commands.{Command, arriving, sliding, serving}
 use Rattle.rules.specs.Run.{carried, after}
 use Rattle.rules.specs.Verdict.{lay_out_number}
 use Rattle.answers.specs.Engine.{as_choice, as_left, listing, own_ticket}
-use Rattle.answers.specs.Offered.{refusal, arrived_of, slid_of, served_of, listed_of, told_of}
+use Rattle.answers.specs.Offered.{served_of}
 use Rattle.answers.specs.declared.Refusal.{Refusal}
-use Rattle.answers.specs.declared.Arrived.{Arrived}
-use Rattle.answers.specs.declared.Arrived.TheVariants as arrive_tells
-use Rattle.answers.specs.declared.Slid.{Slid}
-use Rattle.answers.specs.declared.Slid.TheVariants as slide_tells
-use Rattle.answers.specs.declared.Served.{Served}
-use Rattle.answers.specs.declared.Served.TheVariants as serve_tells
-use Rattle.answers.specs.declared.Ran.{Ran}
-use Rattle.answers.specs.declared.Ran.TheVariants as run_tells
-use Rattle.answers.specs.declared.Replayed.{Replayed}
-use Rattle.answers.specs.declared.Replayed.TheVariants as replay_tells
-use Rattle.answers.specs.declared.Listed.{Listed}
-use Rattle.answers.specs.declared.Listed.TheVariants as list_tells
-use Rattle.answers.specs.declared.Counted.{Counted}
-use Rattle.answers.specs.declared.Counted.TheVariants as count_tells
-use Rattle.answers.specs.declared.Told.{Told}
-use Rattle.answers.specs.declared.Told.TheVariants as ticket_tells
+use Rattle.answers.specs.declared.Refusal.TheVariants as refusals
+use Rattle.answers.specs.declared.Request.{Request}
+use Rattle.answers.specs.declared.Choice.{Choice}
+use Rattle.answers.specs.declared.Report.{Report}
+use Rattle.answers.specs.declared.Replay.{Replay}
 use Rattle.questions.specs.Output.{listed_words}
 use Rattle.recording.specs.Replay as recording
 use Rattle.run.specs.Runs.{report_of}
@@ -55,16 +43,16 @@ pub record Lent : Type 0 where
 abbrev pub lent : ℕ → Call → Lent
 lent n c = record { call = c; words = n }
 
--- what a call answers; after a listing also the output's words
+-- what a call answers; after a listing also the output's words; of a lay-out its number
 pub data Reply : Type 0 where
-  arrived : Arrived → Reply
-  slid : Slid → Reply
-  served : Served → Reply
-  ran : Ran → Reply
-  replayed : Replayed → Reply
-  listed : Listed → List ℕ → Reply
-  counted : Counted → Reply
-  told : Told → Reply
+  arrived : Result Choice Refusal → Reply
+  slid : Result (Option Request) Refusal → Reply
+  served : Result Request Refusal → Reply
+  ran : Result Report Refusal → Reply
+  replayed : Result Replay Refusal → Reply
+  listed : Result ℕ Refusal → List ℕ → Reply
+  counted : Result ℕ Refusal → Reply
+  told : Result ℕ Refusal → Reply
   laid : ℕ → Reply
 
 -- what a call has to say: where the table is refused, and where s waits within limits
@@ -76,28 +64,27 @@ abbrev pub says : (Refusal → Reply) → (Limits → Waiting → Reply) → Say
 says refused answer = record { refused = refused; answer = answer }
 
 abbrev pub command_says : Command → Says
-command_says (arriving r) = says (λ x. arrived (arrive_tells.Refused x)) (λ L s. arrived (arrived_of (as_choice (history.choice L s r.id))))
-command_says (sliding r) = says (λ x. slid (slide_tells.Refused x)) (λ L s. slid (slid_of (as_left (history.slide_left L s))))
-command_says serving = says (λ x. served (serve_tells.Refused x)) (λ L s. served (served_of (as_left (history.served s))))
+command_says (arriving r) = says (λ x. arrived (Err x)) (λ L s. arrived (Ok (as_choice (history.choice L s r.id))))
+command_says (sliding r) = says (λ x. slid (Err x)) (λ L s. slid (Ok (as_left (history.slide_left L s))))
+command_says serving = says (λ x. served (Err x)) (λ L s. served (served_of (as_left (history.served s))))
 
 abbrev pub run_says : List ℕ → ℕ → Says
-run_says bytes budget = says (λ x. ran (run_tells.Refused x)) (λ L s. ran (run_tells.Reported (report_of L s budget bytes)))
+run_says bytes budget = says (λ x. ran (Err x)) (λ L s. ran (Ok (report_of L s budget bytes)))
 
 abbrev pub replay_says : List ℕ → ℕ → Says
-replay_says bytes first = says (λ x. replayed (replay_tells.Refused x)) (λ L s. replayed (replay_tells.Reported (replay_of L s first bytes)))
+replay_says bytes first = says (λ x. replayed (Err x)) (λ L s. replayed (Ok (replay_of L s first bytes)))
 
 -- a listing that is refused leaves its output
 abbrev pub listing_says : (ℕ → Waiting → List ℕ) → ℕ → List ℕ → Says
-listing_says which k out =
-    says (λ x. listed (list_tells.Refused x) out) (λ L s. listed (listed_of (listing k (length out) s)) (listed_words which k s out))
+listing_says which k out = says (λ x. listed (Err x) out) (λ L s. listed (listing k (length out) s) (listed_words which k s out))
 
 abbrev pub ticket_says : (Waiting → ℕ → ℕ) → ℕ → Says
-ticket_says ticket id = says (λ x. told (ticket_tells.Refused x)) (λ L s. told (told_of (own_ticket ticket s id)))
+ticket_says ticket id = says (λ x. told (Err x)) (λ L s. told (own_ticket ticket s id))
 
 abbrev pub question_says : Question → Says
 question_says (heaviest k out) = listing_says history.heaviest k out
 question_says (lightest k out) = listing_says history.lightest k out
-question_says (count id) = says (λ x. counted (count_tells.Refused x)) (λ L s. counted (count_tells.Number (history.count_of s id)))
+question_says (count id) = says (λ x. counted (Err x)) (λ L s. counted (Ok (history.count_of s id)))
 question_says (oldest id) = ticket_says history.oldest_ticket id
 question_says (newest id) = ticket_says history.newest_ticket id
 
@@ -119,7 +106,7 @@ short n s = ltb n (kind.size s.limits.places)
 
 -- a call that is lent n words, if too few, is refused with 2 and leaves the history
 abbrev pub said_of : ℕ → State → Says → Reply
-said_of n s k = cond (short n s) (k.refused (refusal number.too_short)) (k.answer s.limits s.waiting)
+said_of n s k = cond (short n s) (k.refused refusals.TooShort) (k.answer s.limits s.waiting)
 
 abbrev pub carried_on : ℕ → State → List Command → State
 carried_on n s cs = cond (short n s) s (state s.limits (after s.limits s.waiting cs))

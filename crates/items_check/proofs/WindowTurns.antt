@@ -1,22 +1,25 @@
 -- The turns of the walk of the window, with the columns of what was noted.
 use mathlib.Core.List.{List, ◌∷◌}
-use mathlib.Core.Bool.{Bool, true, false, cond}
+use mathlib.Core.Bool.{Bool, true, false, cond, not}
 use mathlib.Core.Path.{◌≡◌, refl, sym, ap, ◌∙◌, subst, fun_ext}
 use mathlib.Core.Logic.Iff
 use mathlib.Core.Logic.{◌↔◌}
 use Prim.Native.Nat.{ℕ, ◌+◌, ◌-◌, ◌≤◌, ◌<◌}
 use native.Mathlib.Omega.{arith}
 use lib.Dec.{eqb}
-use lib.ListN.{length, get_or, set, replicate, length-replicate, get_or-replicate}
+use lib.ListN.{length, get_or, set}
 use lib.Seq.{get_or-set_same, get_or-set_other}
 use borrow.Author.Count.{below_more}
 use borrow.Author.Tests.{eq-eqb, eqb-true, eqb-false}
+use Rattle.std.specs.Int.{from_bool}
 use Rattle.table.specs.Kind as kind
 use Rattle.table.specs.Regions.{Regions}
+use Rattle.rules.specs.Tells.{Tells}
+use Rattle.rules.proofs.Tells.{refuted, told}
 use Rattle.free_check.specs.Listed.{Listed}
 use Rattle.free_check.proofs.Listed as listed
 use Rattle.free_check.proofs.Listed.{left_over}
-use Rattle.items_check.specs.Check.{column, own_of, Notes, notes, unmet, Joins, OwnLeft, Finished, Follows, Expected, Unmet}
+use Rattle.items_check.specs.Check.{column, own_of, Notes, notes, Joins, OwnLeft, Finished, Follows}
 
 -- a column with v noted for c
 
@@ -30,47 +33,25 @@ noted_is xs c v h = fun_ext λ d. go d (eqb c d) refl
     go d true e = ap (λ (k : ℕ). get_or (set xs c v) k 0) (sym (eqb-true c d e)) ∙ get_or-set_same xs c v 0 h
     go d false e = get_or-set_other xs c d v 0 (λ z. eqb-false c d e (sym z))
 
-pub nothing : (q m : ℕ) (R : Regions) (next : List ℕ) → q ≤ m → q ≤ length next → Expected q R next → Unmet q R (replicate m kind.none) next (replicate m 0)
-nothing q m R next h l e =
-    record {
-      met_room = rw length-replicate h;
-      next_room = l;
-      seen_room = rw length-replicate h;
-      nobody = λ c l. get_or-replicate m c kind.none 0 (omega arith);
-      first = e;
-      none_seen = λ c l. get_or-replicate m c 0 0 (omega arith);
-    }
-
 -- the rows below r of which P does not hold are counted: none are exactly where it holds of all
 
 pub record Wrong (P : ℕ → Type 0) (n r : ℕ) : Type 0 where
   pub few : n ≤ r
   pub tell : (n ≡ 0) ↔ ((c : ℕ) → c < r → P c)
 
-pub wrong_first : (P : ℕ → Type 0) → Wrong P 0 0
-wrong_first P = record { few = omega arith; tell = (λ e c l. absurd (omega arith), λ a. refl) }
-
-module _ {P : ℕ → Type 0} {n r : ℕ} (w : Wrong P n r) where
-  pub wrong_no : {v : ℕ} → v ≡ 0 → P r → Wrong P (n + v) (r + 1)
-  wrong_no z p = record { few = omega (arith, w.few); tell = (λ e. below_more P r (w.tell.0 (omega arith)) p, λ a. let e = w.tell.1 (λ c l. a c (omega arith)) in omega arith) }
-
-  pub wrong_one : {v : ℕ} → v ≡ 1 → (P r → ⊥) → Wrong P (n + v) (r + 1)
-  wrong_one z not = record { few = omega (arith, w.few); tell = (λ e. absurd (omega arith), λ a. absurd (not (a r (omega arith)))) }
-
--- the oldest items are noted as far as row r
-
-pub expect_more : (r v : ℕ) (R : Regions) (next : List ℕ) → r < length next → v ≡ R.client r kind.oldest → Expected r R next → Expected (r + 1) R (set next r v)
-expect_more r v R next l e a =
-    below_more (λ c. column (set next r v) c ≡ R.client c kind.oldest) r
-    (λ c h. get_or-set_other next r c v 0 (λ z. omega (arith, z)) ∙ a c h)
-    (get_or-set_same next r v 0 l ∙ e)
+-- the answer for row r counts as 1 where it is false
+pub wrong_more : {P : ℕ → Type 0} {n r v : ℕ} {ok : Bool} → Wrong P n r → Tells ok (P r) → v ≡ from_bool (not ok) → Wrong P (n + v) (r + 1)
+wrong_more {P} {r = r} {ok = true} w a z =
+    record { few = omega (arith, w.few); tell = (λ e. below_more P r (w.tell.0 (omega arith)) (told a refl), λ h. let e = w.tell.1 (λ c l. h c (omega arith)) in omega arith) }
+wrong_more {r = r} {ok = false} w a z =
+    record { few = omega (arith, w.few); tell = (λ e. absurd (omega arith), λ h. absurd (refuted a refl (h r (omega arith)))) }
 
 -- no row has been met more often than the walk has turned
 
-pub seen_more : (seen : List ℕ) (q k n i : ℕ) → i < length seen → 0 < k → ((c : ℕ) → c < q → column seen c + k ≤ n) → i < q → (c : ℕ) → c < q → column (set seen i (column seen i + 1)) c + (k - 1) ≤ n
-seen_more seen q k n i l h b m c w = rw (ap (λ (f : ℕ → ℕ). f c) (noted_is seen i (column seen i + 1) l)) (go (eqb i c) refl)
+pub seen_more : (seen : List ℕ) (q k i : ℕ) → i < length seen → ((c : ℕ) → c < q → column seen c ≤ k) → i < q → (c : ℕ) → c < q → column (set seen i (column seen i + 1)) c ≤ k + 1
+seen_more seen q k i l b m c w = rw (ap (λ (f : ℕ → ℕ). f c) (noted_is seen i (column seen i + 1) l)) (go (eqb i c) refl)
   where
-    go : (t : Bool) → eqb i c ≡ t → cond t (column seen i + 1) (column seen c) + (k - 1) ≤ n
+    go : (t : Bool) → eqb i c ≡ t → cond t (column seen i + 1) (column seen c) ≤ k + 1
     go true e = omega (arith, b i m)
     go false e = omega (arith, b c w)
 
@@ -145,23 +126,9 @@ module _ (q : ℕ) (R : Regions) where
             λ w. let f = s.1 w in record { none = f.run.0; back = sym f.run.1; own = f.own },
           )
 
-    -- other notes that say the same of every row
-    own_so : (M : Notes) (k : ℕ)
-        → ((c : ℕ) → c < q → (xs : List ℕ) → OwnLeft R c (N.met c) (N.next c) (N.seen c) xs → OwnLeft R c (M.met c) (M.next c) (M.seen c) xs)
-        → Listed k (Follows q R x prev N) → Listed k (Follows q R x prev M)
-    own_so M k h l =
-        let f = l.2 in
-        (l.0, l.1, record { below = f.below; run = f.run; owners = f.owners; own = λ c w. h c w (own_of R c l.0) (f.own c w) })
-
-  -- the start and a turn as the code has them
+  -- a turn as the code has it
 
   module _ (x prev : ℕ) (met next seen : List ℕ) (k : ℕ) where
-    pub start : Unmet q R met next seen → Listed k (Follows q R x prev (notes met next seen)) ↔ Listed k (Follows q R x prev (unmet R))
-    start u = (
-      own_so x prev (notes met next seen) (unmet R) k (λ c w xs o. rw (u.nobody c w, u.first c w, u.none_seen c w) at o),
-      own_so x prev (unmet R) (notes met next seen) k (λ c w xs o. rw (u.nobody c w, u.first c w, u.none_seen c w) o),
-    )
-
     pub turn_noted : {W : Type 0} → Listed k (Follows q R x prev (notes met next seen)) ↔ W → 0 < k
         → (c : ℕ) → c ≡ R.item x kind.owner → First x prev (notes met next seen) c → c < length met → c < length next → c < length seen
         → (h : ℕ) → h ≡ R.item x kind.own_later → (to : ℕ) → to ≡ R.item x kind.later

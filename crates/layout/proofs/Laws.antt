@@ -6,9 +6,8 @@ use Prim.Native.Nat.{ℕ, zero, suc, ◌+◌, ◌*◌, ◌-◌, ◌≤◌, ◌<�
 use native.Mathlib.Nat.{mul-zero, mul-suc, add_comm, zero-add, not-suc-le-zero}
 use native.Mathlib.Omega.{arith}
 use lib.Dec.{eqb, ltb}
-use lib.ListN.{length, set, replicate, take, drop, length-replicate, get_or-replicate, length-append, length-drop, replicate-append-replicate}
+use lib.ListN.{length, replicate, take, drop, length-replicate, get_or-replicate, length-append, length-drop, replicate-append-replicate}
 use lib.Seq.{drop-length, length-take-le, take-length, take_at, drop_at}
-use borrow.Author.Fill.{fill_more}
 use borrow.Rule.Slice.PartMut.{mid_of, post_of, put_mid}
 use borrow.Author.Tests.{lt-ltb, le-ltb, eqb-true, eqb-false, ltb-true, ltb-false}
 use Rattle.table.specs.Kind as kind
@@ -20,14 +19,6 @@ use Rattle.rules.specs.Rows.{head_or}
 use Rattle.rules.specs.Steps.{empty, count_up}
 use Rattle.rules.specs.Draw.{after, after_in, drawn, draw}
 use Rattle.layout.specs.Laid.{blank, next_free, chained, headed}
-
--- fill: one word more, and all of them
-
-pub fill_on : (s d : List ℕ) (i v : ℕ) → i < length d → s ≡ replicate i v ++ drop i d → set s i v ≡ replicate (i + 1) v ++ drop (i + 1) d
-fill_on s d i v h e = ap (λ (l : List ℕ). set l i v) e ∙ fill_more i v d h
-
-pub fill_done : (s d : List ℕ) (i v : ℕ) → s ≡ replicate i v ++ drop i d → i ≤ length d → length d ≤ i → s ≡ replicate (length d) v
-fill_done s d i v e h k = let n : i ≡ length d = omega arith in rw n at e ∙ rw (drop-length d, append-nil)
 
 -- clear: the two fills draw the blank regions
 

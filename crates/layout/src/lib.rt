@@ -1,28 +1,19 @@
 // Lay-out and carve: the two calls that make a table out of words that the host lends. Neither asks anything of them.
 #![tactic(auto)]
 
-ghost use Rattle.std.specs.Prelude.{◌≡◌, ◌≤◌, ◌<◌, length, replicate};
+ghost use Rattle.std.specs.Prelude.{◌≡◌, ◌≤◌, ◌<◌, length};
 ghost use Rattle.table.specs.Kind as kind;
 ghost use Rattle.table.specs.Regions.{Sized, Writes, words};
 ghost use Rattle.rules.specs.Steps.{empty};
 ghost use Rattle.rules.specs.Draw.{draw};
 ghost use Rattle.rules.specs.Verdict.{lay_out_number, laid_out, carved, placed};
+ghost use Rattle.answers.specs.Numbers.{done_number};
 ghost use Rattle.layout.specs.Laid.{blank, next_free, chained, headed};
 ghost use Rattle.layout.specs.Carve.{part_of};
 
 use answers::Refusal;
+use std::ops::Range;
 use table::LinkedTable;
-
-// Every word of the part becomes v.
-fn fill(s: &mut [u32], v: u32)
-    ensures { s.new ≡ replicate (length s.old) v }
-{
-    let mut i = 0;
-    while i < s.len() {
-        s[i] = v;
-        i += 1;
-    }
-}
 
 // Header and rows 0, count rows and buckets none.
 fn clear(t: &mut [u32], q: usize)
@@ -30,8 +21,8 @@ fn clear(t: &mut [u32], q: usize)
     ensures { t.new ≡ words q blank }
 {
     let from = LinkedTable::counts_from(q);
-    fill(&mut t[..from], 0);
-    fill(&mut t[from..], LinkedTable::NONE);
+    t[..from].fill(0);
+    t[from..].fill(LinkedTable::NONE);
 }
 
 // The row that a free row chains to.
@@ -52,12 +43,10 @@ fn chain(t: &mut [u32], q: usize)
     requires t_value { t.old ≡ words q blank }
     ensures { t.new ≡ words q (chained q q) }
 {
-    let mut r = 0;
-    while (r as usize) < q {
-        let n = next_free(q, r);
-        table::set_item(t, q, r, LinkedTable::LATER, n);
-        table::set_client(t, q, r, LinkedTable::HEAVIER, n);
-        r += 1;
+    for r in 0..q as u32 {
+        let next = next_free(q, r);
+        table::set_item(t, q, r, LinkedTable::LATER, next);
+        table::set_client(t, q, r, LinkedTable::HEAVIER, next);
     }
 }
 
@@ -85,45 +74,31 @@ fn lay(t: &mut [u32], q: usize)
     head(t, q);
 }
 
-// Lays a table of q places out in the first words of t: 0, or the refusal number where Q is out of range or t too short.
-pub fn lay_out(t: &mut [u32], q: usize) -> u32
-    ensures number { result ≡ lay_out_number q (length t.old) }
+// Lays a table of q places out in the first words of t, unless Q is out of range or t too short.
+pub fn lay_out(t: &mut [u32], q: usize) -> Result<(), Refusal>
+    ensures number { done_number result ≡ lay_out_number q (length t.old) }
     ensures words { t.new ≡ laid_out q t.old }
 {
     if !LinkedTable::in_range(q) {
-        return Refusal::OUT_OF_RANGE;
+        return Err(Refusal::OutOfRange);
     }
     let need = LinkedTable::size(q);
     if t.len() < need {
-        return Refusal::TOO_SHORT;
+        return Err(Refusal::TooShort);
     }
     lay(&mut t[..need], q);
-    0
+    Ok(())
 }
 
-// Where a part of a pool begins and ends.
-#[derive(Clone, Copy)]
-struct Part {
-    from: usize,
-    to: usize,
-}
-
-// The part that a table of q places takes of a pool of len words, from the start on; an empty one where there is none.
-// The end is worked out once it is known to fit: the start may be any number.
-fn part_of(len: usize, start: usize, q: usize) -> Part
+// The part that a table of q places takes of a pool of len words, from the start on, which may be any number.
+fn part_of(len: usize, start: usize, q: usize) -> Option<Range<usize>>
     ensures { result ≡ part_of len start q }
 {
-    let none = Part { from: 0, to: 0 };
-    if !LinkedTable::in_range(q) || len < start {
-        return none;
+    if !LinkedTable::in_range(q) {
+        return None;
     }
-    let need = LinkedTable::size(q);
-    let rest = len - start;
-    if rest < need {
-        return none;
-    }
-    let to = start + need;
-    Part { from: start, to }
+    let end = start.checked_add(LinkedTable::size(q))?;
+    (end <= len).then_some(start..end)
 }
 
 // The part of the pool that a table of q places takes from the start on, or an empty part where there is none.
@@ -131,8 +106,6 @@ pub fn carve(pool: &mut [u32], start: usize, q: usize) -> &mut [u32]
     ensures words { result.now ≡ carved pool.old start q }
     ensures place { result.ref_ptr ≡ placed pool.entry.ref_ptr pool.old start q }
 {
-    let part = part_of(pool.len(), start, q);
-    let from = part.from;
-    let to = part.to;
-    &mut pool[from..to]
+    let part = part_of(pool.len(), start, q).unwrap_or(0..0);
+    &mut pool[part]
 }

@@ -10,43 +10,33 @@ use Rattle.rules.specs.History.{Choice, joined, evicted, turned, Left, nothing, 
 use Rattle.rules.specs.History as history
 use Rattle.rules.specs.Picture.{limits_of, plain}
 use Rattle.answers.specs.Engine.{as_choice, as_left, needed, listing, own_ticket}
-use Rattle.answers.specs.Offered.{arrived_of, slid_of, served_of, listed_of, told_of}
-use Rattle.answers.specs.Numbers.{arrived_numbers, slid_numbers, served_numbers, listed_numbers, counted_numbers, told_numbers}
+use Rattle.answers.specs.Offered.{served_of}
+use Rattle.answers.specs.Numbers.{refusal_number, arrived_numbers, slid_numbers, served_numbers, listed_numbers, counted_numbers, told_numbers}
+use Rattle.std.specs.Prelude.{Option, Result, Ok, Err}
 use Rattle.answers.specs.declared.Refusal.{Refusal}
-use Rattle.answers.specs.declared.Arrived.{Arrived}
-use Rattle.answers.specs.declared.Arrived.TheVariants as arrived
-use Rattle.answers.specs.declared.Slid.{Slid}
-use Rattle.answers.specs.declared.Slid.TheVariants as slid
-use Rattle.answers.specs.declared.Served.{Served}
-use Rattle.answers.specs.declared.Served.TheVariants as served
-use Rattle.answers.specs.declared.Listed.{Listed}
-use Rattle.answers.specs.declared.Listed.TheVariants as listed
-use Rattle.answers.specs.declared.Listing.TheVariants as listings
-use Rattle.answers.specs.declared.Counted.{Counted}
-use Rattle.answers.specs.declared.Counted.TheVariants as counted
-use Rattle.answers.specs.declared.Told.{Told}
-use Rattle.answers.specs.declared.Told.TheVariants as told
-use Rattle.answers.specs.declared.OwnTicket.TheVariants as tickets
+use Rattle.answers.specs.declared.Refusal.TheVariants as refusals
+use Rattle.answers.specs.declared.Request as code
+use Rattle.answers.specs.declared.Choice as choice
 use Rattle.limiter.specs.Lent.{numbers_of}
 use Rattle.limiter.specs.Calls.{choice_values, slide_values, idle, serve_values}
 use Rattle.limiter.proofs.Answers.{Call}
 
 -- arrive
-pub none_chosen : (x : Refusal) (c : Choice) → arrived_numbers (arrived.Refused x) ≡ x.number ∷ map (λ _. 0) (choice_values c)
+pub none_chosen : (x : Refusal) (c : Choice) → arrived_numbers (Err x) ≡ refusal_number x ∷ map (λ _. 0) (choice_values c)
 none_chosen x joined = refl
 none_chosen x (evicted r) = refl
 none_chosen x turned = refl
 
-pub chosen : (c : Choice) → arrived_numbers (arrived_of (as_choice c)) ≡ numbers_of 0 (choice_values c)
+pub chosen : (c : Choice) → arrived_numbers (Ok (as_choice c)) ≡ numbers_of 0 (choice_values c)
 chosen joined = refl
 chosen (evicted r) = refl
 chosen turned = refl
 
-abbrev pub arriving : ℕ → Call Arrived
+abbrev pub arriving : ℕ → Call (Result choice.Choice Refusal)
 arriving i =
     record {
-      refused = arrived.Refused;
-      reply = λ P. arrived_of (as_choice (history.choice (limits_of P) (plain P) i));
+      refused = Err;
+      reply = λ P. Ok (as_choice (history.choice (limits_of P) (plain P) i));
       own = λ P. 0;
       values = λ P. choice_values (history.choice (limits_of P) (plain P) i);
       numbers = arrived_numbers;
@@ -55,19 +45,19 @@ arriving i =
     }
 
 -- slide
-pub none_slid : (x : Refusal) (l : Left) → slid_numbers (slid.Refused x) ≡ x.number ∷ map (λ _. 0) (slide_values l)
+pub none_slid : (x : Refusal) (l : Left) → slid_numbers (Err x) ≡ refusal_number x ∷ map (λ _. 0) (slide_values l)
 none_slid x nothing = refl
 none_slid x (left r) = refl
 
-pub slid_given : (l : Left) → slid_numbers (slid_of (as_left l)) ≡ numbers_of 0 (slide_values l)
+pub slid_given : (l : Left) → slid_numbers (Ok (as_left l)) ≡ numbers_of 0 (slide_values l)
 slid_given nothing = refl
 slid_given (left r) = refl
 
-abbrev pub sliding : Call Slid
+abbrev pub sliding : Call (Result (Option code.Request) Refusal)
 sliding =
     record {
-      refused = slid.Refused;
-      reply = λ P. slid_of (as_left (history.slide_left (limits_of P) (plain P)));
+      refused = Err;
+      reply = λ P. Ok (as_left (history.slide_left (limits_of P) (plain P)));
       own = λ P. 0;
       values = λ P. slide_values (history.slide_left (limits_of P) (plain P));
       numbers = slid_numbers;
@@ -76,7 +66,7 @@ sliding =
     }
 
 -- serve
-pub none_served : (x : Refusal) (l : Left) → served_numbers (served.Refused x) ≡ x.number ∷ map (λ _. 0) (serve_values l)
+pub none_served : (x : Refusal) (l : Left) → served_numbers (Err x) ≡ refusal_number x ∷ map (λ _. 0) (serve_values l)
 none_served x nothing = refl
 none_served x (left r) = refl
 
@@ -84,10 +74,10 @@ pub served_given : (l : Left) → served_numbers (served_of (as_left l)) ≡ num
 served_given nothing = refl
 served_given (left r) = refl
 
-abbrev pub serving : Call Served
+abbrev pub serving : Call (Result code.Request Refusal)
 serving =
     record {
-      refused = served.Refused;
+      refused = Err;
       reply = λ P. served_of (as_left (history.served (plain P)));
       own = λ P. idle (history.served (plain P));
       values = λ P. serve_values (history.served (plain P));
@@ -97,15 +87,15 @@ serving =
     }
 
 -- heaviest and lightest, of k clients into an output of n words
-pub listed_given : (b : Bool) (w : ℕ) → listed_numbers (listed_of (cond b listings.NoRoom (listings.Pairs w))) ≡ numbers_of (cond b number.no_room 0) (w ∷ [])
+pub listed_given : (b : Bool) (w : ℕ) → listed_numbers (cond b (Err refusals.NoRoom) (Ok w)) ≡ numbers_of (cond b number.no_room 0) (w ∷ [])
 listed_given true w = refl
 listed_given false w = refl
 
-abbrev pub listing_of : ℕ → ℕ → Call Listed
+abbrev pub listing_of : ℕ → ℕ → Call (Result ℕ Refusal)
 listing_of k n =
     record {
-      refused = listed.Refused;
-      reply = λ P. listed_of (listing k n (plain P));
+      refused = Err;
+      reply = λ P. listing k n (plain P);
       own = λ P. cond (ltb n (needed k (plain P))) number.no_room 0;
       values = λ P. given k (plain P) ∷ [];
       numbers = listed_numbers;
@@ -114,11 +104,11 @@ listing_of k n =
     }
 
 -- count
-abbrev pub counting : ℕ → Call Counted
+abbrev pub counting : ℕ → Call (Result ℕ Refusal)
 counting i =
     record {
-      refused = counted.Refused;
-      reply = λ P. counted.Number (count_of (plain P) i);
+      refused = Err;
+      reply = λ P. Ok (count_of (plain P) i);
       own = λ P. 0;
       values = λ P. count_of (plain P) i ∷ [];
       numbers = counted_numbers;
@@ -127,15 +117,15 @@ counting i =
     }
 
 -- oldest and newest
-pub told_given : (b : Bool) (x : ℕ) → told_numbers (told_of (cond b (tickets.Ticket x) tickets.NoClient)) ≡ numbers_of (cond b 0 number.no_client) (x ∷ [])
+pub told_given : (b : Bool) (x : ℕ) → told_numbers (cond b (Ok x) (Err refusals.NoClient)) ≡ numbers_of (cond b 0 number.no_client) (x ∷ [])
 told_given true x = refl
 told_given false x = refl
 
-abbrev pub telling : (Waiting → ℕ → ℕ) → ℕ → Call Told
+abbrev pub telling : (Waiting → ℕ → ℕ) → ℕ → Call (Result ℕ Refusal)
 telling ticket i =
     record {
-      refused = told.Refused;
-      reply = λ P. told_of (own_ticket ticket (plain P) i);
+      refused = Err;
+      reply = λ P. own_ticket ticket (plain P) i;
       own = λ P. cond (has i (plain P).order) 0 number.no_client;
       values = λ P. ticket (plain P) i ∷ [];
       numbers = told_numbers;

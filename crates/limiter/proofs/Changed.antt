@@ -12,7 +12,7 @@ use Rattle.rules.specs.Draw.{draw}
 use Rattle.rules.specs.Sound.{picture}
 use Rattle.rules.specs.Verdict.{room, afterwards}
 use Rattle.answers.specs.declared.Refusal.{Refusal}
-use Rattle.answers.specs.declared.Opened.TheVariants as opened
+use Rattle.std.specs.Prelude.{Ok, Err}
 use Rattle.answers.specs.Offered.{opened_on}
 use Rattle.answers.proofs.Found.{found}
 use Rattle.limiter.specs.Lent.{lent}
@@ -23,14 +23,14 @@ module _ (step : Picture → Picture) (t : List ℕ) where
   abbrev pub Words : ℕ → List ℕ → Type 0
   Words few after = (after ≡ afterwards step t) × (altered t after ≤ few)
 
-  pub unchanged : {x : Refusal} → opened.Refused x ≡ opened_on t → t ≡ afterwards step t
+  pub unchanged : {x : Refusal} → Err x ≡ opened_on t → t ≡ afterwards step t
   unfolding afterwards
   unchanged o = refuses t o (λ _. t) (draw (step (lent t)) ++ drop (room t) t)
 
-  pub refused_words : (few : ℕ) {x : Refusal} → opened.Refused x ≡ opened_on t → Words few t
+  pub refused_words : (few : ℕ) {x : Refusal} → Err x ≡ opened_on t → Words few t
   refused_words few o = (unchanged o, omega (arith, altered_same t))
 
-  module _ {q : ℕ} (o : opened.Table q ≡ opened_on t) {n : ℕ} (is : n ≡ kind.size q) {l : List ℕ} (drawn : l ≡ draw (step (picture (take n t)))) where
+  module _ {q : ℕ} (o : Ok q ≡ opened_on t) {n : ℕ} (is : n ≡ kind.size q) {l : List ℕ} (drawn : l ≡ draw (step (picture (take n t)))) where
     pub changed : l ++ drop n t ≡ afterwards step t
     unfolding afterwards
     changed = rw ((found t _ o).0, drawn, part_size t o is)

@@ -12,19 +12,19 @@ use Rattle.rules.specs.Ready.{Ready}
 use Rattle.rules.specs.Verdict.{room, accepts}
 use Rattle.rules.proofs.Verdict.{accepted}
 use Rattle.answers.specs.declared.Refusal.{Refusal}
-use Rattle.answers.specs.declared.Opened.TheVariants as opened
+use Rattle.std.specs.Prelude.{Ok, Err}
 use Rattle.answers.specs.Offered.{opened_on}
 use Rattle.answers.proofs.Found.{found}
 use Rattle.limiter.specs.Lent.{lent, or_refused}
 
 module _ (t : List ℕ) where
   -- a call that finds no table
-  module _ {x : Refusal} (o : opened.Refused x ≡ opened_on t) where
+  module _ {x : Refusal} (o : Err x ≡ opened_on t) where
     pub refuses : {A : Type 0} (refused : Refusal → A) (a : A) → refused x ≡ or_refused refused t a
     refuses refused a = let (turned, is) = found t _ o in rw (turned, is)
 
   -- and one that finds a table of q places, which takes n words
-  module _ {q : ℕ} (o : opened.Table q ≡ opened_on t) where
+  module _ {q : ℕ} (o : Ok q ≡ opened_on t) where
     taken : accepts t ≡ true
     taken = (found t _ o).0
 

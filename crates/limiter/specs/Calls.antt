@@ -1,24 +1,21 @@
 -- What arrive, slide and serve answer on lent words, in cases and in document 01's values.
-use Rattle.std.specs.Prelude.{List, [], ◌∷◌, ℕ}
+use Rattle.std.specs.Prelude.{List, [], ◌∷◌, ℕ, Option, Result, Ok, Err}
 use Rattle.rules.specs.Numbers as number
 use Rattle.rules.specs.History.{Choice, joined, evicted, turned, Left, nothing, left, choice, slide_left}
 use Rattle.rules.specs.History as history
 use Rattle.answers.specs.Engine.{as_choice, as_left}
-use Rattle.answers.specs.Offered.{arrived_of, slid_of, served_of}
-use Rattle.answers.specs.declared.Arrived.{Arrived}
-use Rattle.answers.specs.declared.Arrived.TheVariants as arrived
-use Rattle.answers.specs.declared.Slid.{Slid}
-use Rattle.answers.specs.declared.Slid.TheVariants as slid
-use Rattle.answers.specs.declared.Served.{Served}
-use Rattle.answers.specs.declared.Served.TheVariants as served
+use Rattle.answers.specs.Offered.{served_of}
+use Rattle.answers.specs.declared.Refusal.{Refusal}
+use Rattle.answers.specs.declared.Request.{Request}
+use Rattle.answers.specs.declared.Choice as code
 use Rattle.limiter.specs.Lent.{waiting_in, limits_in, or_refused, refusal_of}
 
 -- arrive: which of the three happened, and the request that left
 abbrev pub arrive_choice : ℕ → List ℕ → Choice
 arrive_choice i t = choice (limits_in t) (waiting_in t) i
 
-abbrev pub arrive_answer : ℕ → List ℕ → Arrived
-arrive_answer i t = or_refused arrived.Refused t (arrived_of (as_choice (arrive_choice i t)))
+abbrev pub arrive_answer : ℕ → List ℕ → Result code.Choice Refusal
+arrive_answer i t = or_refused Err t (Ok (as_choice (arrive_choice i t)))
 
 -- being turned away is a reply, number 0
 abbrev pub arrive_number : List ℕ → ℕ
@@ -33,8 +30,8 @@ choice_values turned = 3 ∷ 0 ∷ 0 ∷ []
 abbrev pub slide_leaves : List ℕ → Left
 slide_leaves t = slide_left (limits_in t) (waiting_in t)
 
-abbrev pub slide_answer : List ℕ → Slid
-slide_answer t = or_refused slid.Refused t (slid_of (as_left (slide_leaves t)))
+abbrev pub slide_answer : List ℕ → Result (Option Request) Refusal
+slide_answer t = or_refused Err t (Ok (as_left (slide_leaves t)))
 
 abbrev pub slide_number : List ℕ → ℕ
 slide_number t = refusal_of t 0
@@ -44,8 +41,8 @@ slide_values nothing = 0 ∷ 0 ∷ 0 ∷ []
 slide_values (left r) = 1 ∷ r.id ∷ r.ticket ∷ []
 
 -- serve: the request that left
-abbrev pub serve_answer : List ℕ → Served
-serve_answer t = or_refused served.Refused t (served_of (as_left (history.served (waiting_in t))))
+abbrev pub serve_answer : List ℕ → Result Request Refusal
+serve_answer t = or_refused Err t (served_of (as_left (history.served (waiting_in t))))
 
 -- its refusal number: 5 where nobody waits
 abbrev pub idle : Left → ℕ

@@ -3,7 +3,7 @@ use Rattle.std.specs.Prelude.{cond, List, ◌∷◌, map, ℕ, eqb, take}
 use Rattle.rules.specs.History.{Waiting, Limits}
 use Rattle.rules.specs.Picture.{Picture, limits_of, plain}
 use Rattle.rules.specs.Sound.{picture}
-use Rattle.rules.specs.Verdict.{room, accepts}
+use Rattle.rules.specs.Verdict.{room, verdict, accepts}
 use Rattle.answers.specs.declared.Refusal.{Refusal}
 use Rattle.answers.specs.Offered.{refusal_on}
 
@@ -24,7 +24,7 @@ or_refused refused t a = cond (accepts t) a (refused (refusal_on t))
 
 -- the refusal number of a call: the table's before its own
 abbrev pub refusal_of : List ℕ → ℕ → ℕ
-refusal_of t own = or_refused (λ x. x.number) t own
+refusal_of t own = cond (accepts t) own (verdict t)
 
 -- a reply in document 01's numbers: the refusal number, 0 for none, then the values, each 0 where there is none to give
 abbrev pub numbers_of : ℕ → List ℕ → List ℕ

@@ -1,5 +1,5 @@
 -- The free rows of a kind: chained from a header word, every other word 0.
-use Rattle.std.specs.Prelude.{List, cond, ℕ, zero, suc, ◌+◌, eqb, set}
+use Rattle.std.specs.Prelude.{cond, ℕ, eqb}
 use Rattle.table.specs.Kind as kind
 use Rattle.table.specs.Regions.{Regions, set_header}
 use Rattle.links.specs.Strands.{Region, items, clients}
@@ -29,8 +29,3 @@ take_from P R = set_header P.head (P.rows.word R (R.header P.head) P.link) R
 -- row r is freed: it becomes the first
 abbrev pub free_into : Pool → ℕ → Regions → Regions
 free_into P r R = set_header P.head r (P.rows.with (blank (P.rows.word R) r P.link (R.header P.head)) R)
-
--- of n words from a place on, v in word c and 0 in the others: what the code does to a row
-unfoldable pub blanked : ℕ → ℕ → ℕ → ℕ → List ℕ → List ℕ
-blanked from c v zero t = t
-blanked from c v (suc n) t = set (blanked from c v n t) (from + n) (cond (eqb n c) v 0)

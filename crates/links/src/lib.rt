@@ -7,7 +7,7 @@ ghost use Rattle.table.specs.Kind as kind;
 ghost use Rattle.table.specs.Regions.{Sized, Writes, item_word, client_word};
 ghost use Rattle.rules.specs.Linked.{Link};
 ghost use Rattle.links.specs.Strands.{the_window, the_order, the_own, unlink_in, insert_in, push_in};
-ghost use Rattle.links.specs.Pools.{free_items, free_clients, take_from, free_into, blanked};
+ghost use Rattle.links.specs.Pools.{free_items, free_clients, take_from, free_into};
 ghost use Rattle.links.specs.Places.{places, word_at, link_at, back_word, on_word, Ends, Row, Reach, turned, unlinked, inserted, pushed, other_way};
 
 use table::LinkedTable;
@@ -23,111 +23,113 @@ struct Places {
     last: usize,
 }
 
-// The link f of row r.
-fn link_of(t: &[u32], p: Places, f: usize, r: u32) -> u32
-    requires { word_at p r f < length t.now }
-    ensures { result ≡ get_or t.now (word_at p r f) 0 }
-{
-    t[p.rows + p.width * (r as usize) + f]
-}
-
-// The link f of row r becomes v.
-fn set_link(t: &mut [u32], p: Places, f: usize, r: u32, v: u32)
-    requires { word_at p r f < length t.old }
-    ensures { t.new ≡ set t.old (word_at p r f) v }
-{
-    t[p.rows + p.width * (r as usize) + f] = v;
-}
-
-// The link f of row e becomes v; where e is none, the end does.
-fn put_link(t: &mut [u32], p: Places, f: usize, end: usize, e: u32, v: u32)
-    requires end_in_bounds { end < length t.old }
-    requires f_in_bounds { (e ≡ kind.none → ⊥) → word_at p e f < length t.old }
-    ensures { t.new ≡ set t.old (link_at p f end e) v }
-{
-    if e == LinkedTable::NONE {
-        t[end] = v;
-    } else {
-        set_link(t, p, f, e, v);
+impl Places {
+    // The link f of row r.
+    fn link_of(self, t: &[u32], f: usize, r: u32) -> u32
+        requires { word_at self r f < length t.now }
+        ensures { result ≡ get_or t.now (word_at self r f) 0 }
+    {
+        t[self.rows + self.width * (r as usize) + f]
     }
-}
 
-// The link on from e becomes v, and the link back from l becomes w.
-fn turn(t: &mut [u32], p: Places, e: u32, v: u32, l: u32, w: u32)
-    requires ends { Ends (length t.old) p }
-    requires reach { Reach (length t.old) p e }
-    requires later_reach { Reach (length t.old) p l }
-    ensures { t.new ≡ turned p e v l w t.old }
-{
-    put_link(t, p, p.on, p.first, e, v);
-    put_link(t, p, p.back, p.last, l, w);
-}
-
-// Row r goes out of the list: its neighbours are linked to each other.
-fn unlink(t: &mut [u32], p: Places, r: u32)
-    requires ends { Ends (length t.old) p }
-    requires row { Row (length t.old) p r }
-    requires reach { Reach (length t.old) p (back_word p t.old r) }
-    requires later_reach { Reach (length t.old) p (on_word p t.old r) }
-    ensures { t.new ≡ unlinked p r t.old }
-{
-    let e = link_of(t, p, p.back, r);
-    let l = link_of(t, p, p.on, r);
-    turn(t, p, e, l, l, e);
-}
-
-// Row r comes into the list between e and l, either of which may be none.
-fn insert(t: &mut [u32], p: Places, r: u32, e: u32, l: u32)
-    requires ends { Ends (length t.old) p }
-    requires row { Row (length t.old) p r }
-    requires reach { Reach (length t.old) p e }
-    requires later_reach { Reach (length t.old) p l }
-    ensures { t.new ≡ inserted p r e l t.old }
-{
-    set_link(t, p, p.back, r, e);
-    set_link(t, p, p.on, r, l);
-    turn(t, p, e, r, l, r);
-}
-
-// Row r comes into the list after e, which is a row: its link on is written with no test for none.
-fn insert_after(t: &mut [u32], p: Places, r: u32, e: u32)
-    requires ends { Ends (length t.old) p }
-    requires row { Row (length t.old) p r }
-    requires row_of_e { Row (length t.old) p e × (e < kind.none) }
-    requires reach { Reach (length t.old) p (on_word p t.old e) }
-    ensures { t.new ≡ inserted p r e (on_word p t.old e) t.old }
-{
-    let l = link_of(t, p, p.on, e);
-    set_link(t, p, p.back, r, e);
-    set_link(t, p, p.on, r, l);
-    set_link(t, p, p.on, e, r);
-    put_link(t, p, p.back, p.last, l, r);
-}
-
-// The same list read from its other end: what comes after a row there comes before it here.
-fn reversed(p: Places) -> Places
-    ensures { result ≡ other_way p }
-{
-    Places {
-        rows: p.rows,
-        width: p.width,
-        back: p.on,
-        on: p.back,
-        first: p.last,
-        last: p.first,
+    // The link f of row r becomes v.
+    fn set_link(self, t: &mut [u32], f: usize, r: u32, v: u32)
+        requires { word_at self r f < length t.old }
+        ensures { t.new ≡ set t.old (word_at self r f) v }
+    {
+        t[self.rows + self.width * (r as usize) + f] = v;
     }
-}
 
-// Row r comes into the list after the last.
-fn push(t: &mut [u32], p: Places, r: u32)
-    requires ends { Ends (length t.old) p }
-    requires row { Row (length t.old) p r }
-    requires reach { Reach (length t.old) p (get_or t.old p.last 0) }
-    ensures { t.new ≡ pushed p r t.old }
-{
-    let last = p.last;
-    let e = t[last];
-    insert(t, p, r, e, LinkedTable::NONE);
+    // The link f of row e becomes v; where e is none, the end does.
+    fn put_link(self, t: &mut [u32], f: usize, end: usize, e: u32, v: u32)
+        requires end_in_bounds { end < length t.old }
+        requires f_in_bounds { (e ≡ kind.none → ⊥) → word_at self e f < length t.old }
+        ensures { t.new ≡ set t.old (link_at self f end e) v }
+    {
+        if e == LinkedTable::NONE {
+            t[end] = v;
+        } else {
+            self.set_link(t, f, e, v);
+        }
+    }
+
+    // The link on from e becomes v, and the link back from l becomes w.
+    fn turn(self, t: &mut [u32], e: u32, v: u32, l: u32, w: u32)
+        requires ends { Ends (length t.old) self }
+        requires reach { Reach (length t.old) self e }
+        requires later_reach { Reach (length t.old) self l }
+        ensures { t.new ≡ turned self e v l w t.old }
+    {
+        self.put_link(t, self.on, self.first, e, v);
+        self.put_link(t, self.back, self.last, l, w);
+    }
+
+    // Row r goes out of the list: its neighbours are linked to each other.
+    fn unlink(self, t: &mut [u32], r: u32)
+        requires ends { Ends (length t.old) self }
+        requires row { Row (length t.old) self r }
+        requires reach { Reach (length t.old) self (back_word self t.old r) }
+        requires later_reach { Reach (length t.old) self (on_word self t.old r) }
+        ensures { t.new ≡ unlinked self r t.old }
+    {
+        let e = self.link_of(t, self.back, r);
+        let l = self.link_of(t, self.on, r);
+        self.turn(t, e, l, l, e);
+    }
+
+    // Row r comes into the list between e and l, either of which may be none.
+    fn insert(self, t: &mut [u32], r: u32, e: u32, l: u32)
+        requires ends { Ends (length t.old) self }
+        requires row { Row (length t.old) self r }
+        requires reach { Reach (length t.old) self e }
+        requires later_reach { Reach (length t.old) self l }
+        ensures { t.new ≡ inserted self r e l t.old }
+    {
+        self.set_link(t, self.back, r, e);
+        self.set_link(t, self.on, r, l);
+        self.turn(t, e, r, l, r);
+    }
+
+    // Row r comes into the list after e, which is a row: its link on is written with no test for none.
+    fn insert_after(self, t: &mut [u32], r: u32, e: u32)
+        requires ends { Ends (length t.old) self }
+        requires row { Row (length t.old) self r }
+        requires row_of_e { Row (length t.old) self e × (e < kind.none) }
+        requires reach { Reach (length t.old) self (on_word self t.old e) }
+        ensures { t.new ≡ inserted self r e (on_word self t.old e) t.old }
+    {
+        let l = self.link_of(t, self.on, e);
+        self.set_link(t, self.back, r, e);
+        self.set_link(t, self.on, r, l);
+        self.set_link(t, self.on, e, r);
+        self.put_link(t, self.back, self.last, l, r);
+    }
+
+    // The same list read from its other end: what comes after a row there comes before it here.
+    fn reversed(self) -> Self
+        ensures { result ≡ other_way self }
+    {
+        Self {
+            rows: self.rows,
+            width: self.width,
+            back: self.on,
+            on: self.back,
+            first: self.last,
+            last: self.first,
+        }
+    }
+
+    // Row r comes into the list after the last.
+    fn push(self, t: &mut [u32], r: u32)
+        requires ends { Ends (length t.old) self }
+        requires row { Row (length t.old) self r }
+        requires reach { Reach (length t.old) self (get_or t.old self.last 0) }
+        ensures { t.new ≡ pushed self r t.old }
+    {
+        let last = self.last;
+        let e = t[last];
+        self.insert(t, r, e, LinkedTable::NONE);
+    }
 }
 
 // Where the window stands: in every table alike.
@@ -184,7 +186,7 @@ pub fn unlink_item(t: &mut [u32], q: usize, r: u32)
     ensures writes { Writes q t.old t.new (unlink_in the_window r) }
     ensures still_sized { Sized q t.new }
 {
-    unlink(t, window(), r);
+    window().unlink(t, r);
 }
 
 // An item joins at the back of the window.
@@ -195,7 +197,7 @@ pub fn push_item(t: &mut [u32], q: usize, r: u32)
     ensures writes { Writes q t.old t.new (push_in the_window r) }
     ensures still_sized { Sized q t.new }
 {
-    push(t, window(), r);
+    window().push(t, r);
 }
 
 // A client goes out of the order.
@@ -207,7 +209,7 @@ pub fn unlink_client(t: &mut [u32], q: usize, r: u32)
     ensures writes { Writes q t.old t.new (unlink_in the_order r) }
     ensures still_sized { Sized q t.new }
 {
-    unlink(t, order(q), r);
+    order(q).unlink(t, r);
 }
 
 // A client comes into the order between e and l, either of which may be none.
@@ -219,7 +221,7 @@ pub fn insert_client(t: &mut [u32], q: usize, r: u32, e: u32, l: u32)
     ensures writes { Writes q t.old t.new (insert_in the_order r e l) }
     ensures still_sized { Sized q t.new }
 {
-    insert(t, order(q), r, e, l);
+    order(q).insert(t, r, e, l);
 }
 
 // A client comes into the order after the client in row e.
@@ -231,7 +233,7 @@ pub fn insert_client_after(t: &mut [u32], q: usize, r: u32, e: u32)
     ensures writes { Writes q t.old t.new (λ R. insert_in the_order r e (R.client e kind.heavier) R) }
     ensures still_sized { Sized q t.new }
 {
-    insert_after(t, order(q), r, e);
+    order(q).insert_after(t, r, e);
 }
 
 // A client comes into the order before the client in row l.
@@ -243,7 +245,7 @@ pub fn insert_client_before(t: &mut [u32], q: usize, r: u32, l: u32)
     ensures writes { Writes q t.old t.new (λ R. insert_in the_order r (R.client l kind.lighter) l R) }
     ensures still_sized { Sized q t.new }
 {
-    insert_after(t, reversed(order(q)), r, l);
+    order(q).reversed().insert_after(t, r, l);
 }
 
 // An item goes out of the own items of client c.
@@ -256,7 +258,7 @@ pub fn unlink_own(t: &mut [u32], q: usize, c: u32, r: u32)
     ensures writes { Writes q t.old t.new (unlink_in (the_own c) r) }
     ensures still_sized { Sized q t.new }
 {
-    unlink(t, own(q, c), r);
+    own(q, c).unlink(t, r);
 }
 
 // An item comes into the own items of client c between e and l: with both none, it is the only one.
@@ -269,19 +271,7 @@ pub fn insert_own(t: &mut [u32], q: usize, c: u32, r: u32, e: u32, l: u32)
     ensures writes { Writes q t.old t.new (insert_in (the_own c) r e l) }
     ensures still_sized { Sized q t.new }
 {
-    insert(t, own(q, c), r, e, l);
-}
-
-// The n words from a place on become 0, but for the one at `link`, which becomes v.
-fn blank(t: &mut [u32], from: usize, n: usize, link: usize, v: u32)
-    requires { from + n ≤ length t.old }
-    ensures { t.new ≡ blanked from link v n t.old }
-{
-    let mut f = 0;
-    while f < n {
-        t[from + f] = if f == link { v } else { 0 };
-        f += 1;
-    }
+    own(q, c).insert(t, r, e, l);
 }
 
 // The first free item row, taken off its chain.
@@ -307,7 +297,8 @@ pub fn free_item(t: &mut [u32], q: usize, r: u32)
 {
     let first = table::header(t, q, LinkedTable::FREE_ITEM_AT);
     let row = LinkedTable::item_at(r);
-    blank(t, row, LinkedTable::ITEM_WORDS, LinkedTable::LATER, first);
+    t[row..row + LinkedTable::ITEM_WORDS].fill(0);
+    t[row + LinkedTable::LATER] = first;
     table::set_header(t, q, LinkedTable::FREE_ITEM_AT, r);
 }
 

@@ -1,22 +1,24 @@
 -- Whether the rows of a chain have ids of their own: a short chain through its links, a long one side by side.
 use mathlib.Core.List.{List, [], ◌∷◌, ◌++◌, map, append_assoc, append-nil}
-use mathlib.Core.Bool.{Bool, true, false}
+use mathlib.Core.Bool.{Bool, true, false, ◌||◌}
 use mathlib.Core.Path.{◌≡◌, refl, sym, ◌∙◌}
-use mathlib.Core.Logic.{◌↔◌}
+use mathlib.Core.Logic.{⊎_elim, inl, inr}
 use Prim.Native.Nat.{ℕ, ◌+◌, ◌≤◌, ◌<◌}
 use native.Mathlib.Numerals.{add-one}
 use native.Mathlib.Omega.{arith}
 use lib.Dec.{eqb}
-use lib.ListN.{length, get_or, take, set, length-set}
-use lib.Seq.{take-suc, take-suc-set}
+use lib.ListN.{length, take, set, length-set}
+use borrow.Author.Tests.{eqb-true, eqb-false}
+use lib.Seq.{take-suc-set}
+use Rattle.std.specs.List.{list_any}
 use Rattle.table.specs.Kind as kind
 use Rattle.table.specs.Regions.{Sized, client_word}
-use Rattle.rules.specs.Rows.{NotIn, Distinct}
+use Rattle.rules.specs.Rows.{In, Distinct}
 use Rattle.rules.specs.Tells.{Tells}
-use Rattle.rules.proofs.Rows.{not_both, notin_left, notin_right, notin_both, meets, at_most}
+use Rattle.rules.proofs.Rows.{not_both, notin, meets, at_most}
 use Rattle.rules.proofs.Put.{put_last, put_distinct}
 use Rattle.rules.proofs.Columns.{chain_once}
-use Rattle.rules.proofs.Tells.{tells_yes, tells_no, tells_equal, refuted, told}
+use Rattle.rules.proofs.Tells.{tells_yes, tells_no, tells_so, refuted, told}
 use Rattle.lookup.specs.Promise.{Found}
 use Rattle.lookup.specs.Inside.Reading.{id_of, next_of, from, Ends, OwnIds}
 use Rattle.lookup.specs.Inside.Filing.{id_out, id_in_lem}
@@ -56,42 +58,17 @@ module _ {q : ℕ} {t : List ℕ} {first at : ℕ} (z : Sized q t) (w : Owns q t
         let rest : List ℕ = from q t (next_of q t at) in
         tells_no (λ u. not_both (id_of q t at) (map (id_of q t) rest) (rw there.1 at (id_in_lem (id_of q t) y rest there.0)) (rw s.is at (w.part u)).0)
 
--- nowhere: there are no hits among the first i numbers exactly where x is none of them
-pub record Hits (a : List ℕ) (n x hits i : ℕ) : Type 0 where
-  pub low : i ≤ n
-  pub few : hits ≤ i
-  pub tell : (hits ≡ 0) ↔ NotIn x (take i a)
+-- what a slice's `contains` answers on numbers
+any_tells : (x : ℕ) (xs : List ℕ) → Tells (list_any (λ y. eqb y x) xs) (In x xs)
+any_tells x [] = tells_no (λ i. i)
+any_tells x (y ∷ xs) = go (eqb y x) refl (any_tells x xs)
+  where
+    go : (b : Bool) → eqb y x ≡ b → Tells (list_any (λ z. eqb z x) xs) (In x xs) → Tells (b || list_any (λ z. eqb z x) xs) (In x (y ∷ xs))
+    go true e f = tells_yes (inl (sym (eqb-true y x e)))
+    go false e f = tells_so ((λ i. inr i), λ i. ⊎_elim (λ z. absurd (eqb-false y x e (sym z))) (λ j. j) i) f
 
-pub hits_first : {a : List ℕ} {n x : ℕ} → Hits a n x 0 0
-hits_first = record { low = omega arith; few = omega arith; tell = (λ e. tt, λ u. refl) }
-
-module _ {a : List ℕ} {n x hits i : ℕ} (m : Hits a n x hits i) where
-  -- one more number is read
-  module _ (h : i < n) {k : ℕ} (s : (n ≤ k) × (length a ≡ k)) where
-    more : take (i + 1) a ≡ take i a ++ get_or a i 0 ∷ []
-    more = rw (add-one i) (take-suc a i 0 (omega arith))
-
-    pub hits_one : {v : ℕ} → get_or a i 0 ≡ x → v ≡ 1 → Hits a n x (hits + v) (i + 1)
-    hits_one e f =
-        record {
-          low = omega arith;
-          few = omega (arith, m.few);
-          tell = (λ z. absurd (omega arith), λ u. absurd ((notin_right x (take i a) (get_or a i 0 ∷ []) (rw more at u)).0 (sym e)));
-        }
-
-    pub hits_no : {v : ℕ} → (get_or a i 0 ≡ x → ⊥) → v ≡ 0 → Hits a n x (hits + v) (i + 1)
-    hits_no d f =
-        record {
-          low = omega arith;
-          few = omega (arith, m.few);
-          tell = (
-            λ z. rw more (notin_both x (take i a) (get_or a i 0 ∷ []) (m.tell.0 (omega arith)) (λ e. d (sym e), tt)),
-            λ u. omega (arith, m.tell.1 (notin_left x (take i a) (get_or a i 0 ∷ []) (rw more at u))),
-          );
-        }
-
-  pub hits_all : n ≤ i → Tells (eqb hits 0) (NotIn x (take n a))
-  hits_all h = let e : i ≡ n = omega (arith, m.low) in rw (← e) (tells_equal hits 0 m.tell)
+pub tells_in : {ok : Bool} (x : ℕ) (xs : List ℕ) → ok ≡ list_any (λ y. eqb y x) xs → Tells ok (In x xs)
+tells_in x xs e = rw e (any_tells x xs)
 
 -- long_own_ids: the ids of the rows before `at` stand side by side, each its own
 pub record Copies (q : ℕ) (t : List ℕ) (first : ℕ) (ids : List ℕ) (n at : ℕ) : Type 0 where
@@ -121,14 +98,14 @@ module _ {q : ℕ} {t ids : List ℕ} {first n at : ℕ} (z : Sized q t) (m : Co
     pub copies_low : n < kind.largest
     copies_low = omega (arith, z.small, rw (step z m.ends d).is at m.room)
 
-    module _ {v : ℕ} (is : v ≡ client_word t q at kind.id) {ok : Bool} (f : Tells ok (NotIn v (take n ids))) where
+    module _ {v : ℕ} (is : v ≡ client_word t q at kind.id) {ok : Bool} (f : Tells ok (In v (take n ids))) where
       here : take n ids ++ v ∷ map (id_of q t) (from q t (next_of q t at)) ≡ map (id_of q t) (from q t first)
       here = rw is (rw (step z m.ends d).is at m.all)
 
-      pub copies_twin : ok ≡ false → Tells false (OwnIds q t first)
-      copies_twin e = tells_no (λ u. refuted f e (meets v (take n ids) (map (id_of q t) (from q t (next_of q t at))) (rw here u)))
+      pub copies_twin : ok ≡ true → Tells false (OwnIds q t first)
+      copies_twin e = tells_no (λ u. not_both v (take n ids) (told f e) (meets v (take n ids) (map (id_of q t) (from q t (next_of q t at))) (rw here u)))
 
-      pub copies_next : ok ≡ true → {to : ℕ} → to ≡ client_word t q at kind.next_in_bucket → Copies q t first (set ids n v) (n + 1) to
+      pub copies_next : ok ≡ false → {to : ℕ} → to ≡ client_word t q at kind.next_in_bucket → Copies q t first (set ids n v) (n + 1) to
       copies_next e next =
           let s = step z m.ends d in
           let more : take (n + 1) (set ids n v) ≡ take n ids ++ v ∷ [] = rw (add-one n) (take-suc-set ids n v (omega (arith, copies_low, m.long))) in
@@ -138,7 +115,7 @@ module _ {q : ℕ} {t ids : List ℕ} {first n at : ℕ} (z : Sized q t) (m : Co
             room = omega (arith, rw s.is at m.room);
             long = length-set ids n v ∙ m.long;
             all = rw (more, append_assoc) here;
-            own = rw more (put_distinct (put_last v (take n ids)) (told f e) m.own);
+            own = rw more (put_distinct (put_last v (take n ids)) (notin v (take n ids) (refuted f e)) m.own);
           })
 
 -- own_ids: one row has an id of its own

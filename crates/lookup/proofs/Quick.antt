@@ -1,14 +1,15 @@
 -- The quick test's loops: the pointers that hold a row, the steps to a client, and the clients one after the other.
 use mathlib.Core.List.{List, ◌∷◌}
-use mathlib.Core.Bool.{Bool, true, false, cond}
+use mathlib.Core.Bool.{Bool, true, false, cond, not}
 use mathlib.Core.Path.{◌≡◌, refl, sym, ◌∙◌}
-use Prim.Native.Nat.{ℕ, zero, suc, ◌+◌, ◌-◌, ◌≤◌, ◌<◌}
+use Prim.Native.Nat.{ℕ, zero, suc, ◌+◌, ◌≤◌, ◌<◌}
 use native.Mathlib.Numerals.{add-one}
 use native.Mathlib.Omega.{arith}
 use lib.Dec.{eqb}
 use lib.ListN.{length}
 use borrow.Author.Count.{below_more}
 use borrow.Author.Tests.{eqb-true, eq-eqb, ne_eqb}
+use Rattle.std.specs.Int.{from_bool}
 use Rattle.table.specs.Kind as kind
 use Rattle.table.specs.Regions.{Sized, regions, client_word, bucket_word}
 use Rattle.table.specs.Owners.{order_words}
@@ -31,9 +32,6 @@ filled_most f (suc k) = go (eqb (f k) kind.none) (filled_most f k)
 pub record Counts (f : ℕ → ℕ) (k n : ℕ) : Type 0 where
   pub many : n ≡ length (filled f k)
 
-pub counts_first : {f : ℕ → ℕ} → Counts f 0 0
-counts_first = record { many = refl }
-
 module _ {f : ℕ → ℕ} {k n : ℕ} (m : Counts f k n) where
   pub counts_few : n ≤ k
   counts_few = omega (arith, m.many, filled_most f k)
@@ -42,34 +40,20 @@ module _ {f : ℕ → ℕ} {k n : ℕ} (m : Counts f k n) where
   counts_all {q} h g = let e : q ≡ k = omega arith in rw e m.many
 
   -- the next word is x, for which v is added
-  module _ {x v : ℕ} (is : x ≡ f k) where
-    pub counts_none : x ≡ kind.none → v ≡ 0 → Counts f (k + 1) (n + v)
-    counts_none e z = rw (add-one k) (record { many = rw (eq-eqb (f k) kind.none (sym is ∙ e)) (omega (arith, m.many)) })
-
-    pub counts_one : (x ≡ kind.none → ⊥) → v ≡ 1 → Counts f (k + 1) (n + v)
-    counts_one e z = rw (add-one k) (record { many = rw (ne_eqb (f k) kind.none (λ y. e (is ∙ y))) (omega (arith, m.many)) })
+  pub counts_next : {x v : ℕ} → x ≡ f k → v ≡ from_bool (not (eqb x kind.none)) → Counts f (k + 1) (n + v)
+  counts_next is e = rw (add-one k, e, is) (record { many = go (eqb (f k) kind.none) })
+    where
+      go : (b : Bool) → n + from_bool (not b) ≡ length (cond b (filled f k) (k ∷ filled f k))
+      go true = omega (arith, m.many)
+      go false = omega (arith, m.many)
 
 -- comes_to: the steps so far
-pub record Coming (q : ℕ) (t : List ℕ) (first x at left : ℕ) : Type 0 where
-  pub steps : ℕ
-  pub spent : steps + left ≡ most_steps
+pub record Coming (q : ℕ) (t : List ℕ) (first x at steps : ℕ) : Type 0 where
   pub path : Path (Other q t x) (next_of q t) first steps at
 
-pub coming_first : {q : ℕ} {t : List ℕ} {first x : ℕ} → Coming q t first x first most_steps
-coming_first = record { steps = 0; spent = refl; path = refl }
-
-module _ {q : ℕ} {t : List ℕ} {first x at left : ℕ} (m : Coming q t first x at left) where
-  pub coming_here : {r : ℕ} → at ≡ r → true ≡ true → Comes q t first r x
-  coming_here e o = record { steps = m.steps; few = omega (arith, m.spent); path = rw (← e) m.path }
-
-  pub coming_next : {c i to : ℕ} → (left ≡ 0 → ⊥) → at < q → c ≡ client_word t q at kind.count → (c ≡ 0 → ⊥) → i ≡ client_word t q at kind.id → (i ≡ x → ⊥)
-      → to ≡ client_word t q at kind.next_in_bucket → Coming q t first x to (left - 1)
-  coming_next l h ec nc ei ni next =
-      record {
-        steps = suc m.steps;
-        spent = omega (arith, m.spent);
-        path = (at, record { low = h; counts = λ e. nc (ec ∙ e); other = λ e. ni (ei ∙ e) }, m.path, sym next);
-      }
+module _ {q : ℕ} {t : List ℕ} {first x at steps : ℕ} (m : Coming q t first x at steps) where
+  pub coming_here : {r : ℕ} → steps ≤ most_steps → at ≡ r → Comes q t first r x
+  coming_here l e = record { steps = steps; few = l; path = rw (← e) m.path }
 
 -- stands: x is the row's id, b its bucket and h the first there
 pub stands_by : {q : ℕ} {t : List ℕ} {r x b h : ℕ} → x ≡ client_word t q r kind.id → b ≡ bucket q x → h ≡ bucket_word t q b → Comes q t h r x → Stands q t r
@@ -77,7 +61,6 @@ stands_by id home first w = rw (first, home, id) at w
 
 -- by_clients: the clients below row r are come to, and with the buckets they hold so many pointers
 pub record Walked (q : ℕ) (t : List ℕ) (r links : ℕ) : Type 0 where
-  pub low : r ≤ q
   pub stands : (c : ℕ) → c < r → ((order_words (regions q t)).count c ≡ 0 → ⊥) → Stands q t c
   pub firsts : ℕ
   pub nexts : ℕ
@@ -85,19 +68,15 @@ pub record Walked (q : ℕ) (t : List ℕ) (r links : ℕ) : Type 0 where
   pub counts : Counts (onward q t) r nexts
   pub sum : links ≡ firsts + nexts
 
-pub walked_first : {q : ℕ} {t : List ℕ} {n : ℕ} → n ≡ length (filled (bucket_word t q) q) → Walked q t 0 n
-walked_first {n = n} e =
-    record { low = omega arith; stands = λ c h. absurd (omega arith); firsts = n; nexts = 0; heads = record { many = e }; counts = counts_first; sum = omega arith }
-
 module _ {q : ℕ} {t : List ℕ} {r links : ℕ} (m : Walked q t r links) where
   pub walked_few : links ≤ q + r
   walked_few = omega (arith, m.sum, counts_few m.heads, counts_few m.counts)
 
-  pub walked_all : {n : ℕ} → q ≤ r → eqb links n ≡ true → Reached q t n
-  walked_all {n} h e =
+  pub walked_all : {n : ℕ} → r ≤ q → q ≤ r → eqb links n ≡ true → Reached q t n
+  walked_all {n} g h e =
       record {
         stands = λ c l. m.stands c (omega arith);
-        many = omega (arith, eqb-true links n e, m.sum, m.heads.many, counts_all m.counts m.low h);
+        many = omega (arith, eqb-true links n e, m.sum, m.heads.many, counts_all m.counts g h);
       }
 
   -- one more row is read
@@ -106,12 +85,11 @@ module _ {q : ℕ} {t : List ℕ} {r links : ℕ} (m : Walked q t r links) where
     walked_blank e =
         let none : kind.none ≡ onward q t r = rw (eq-eqb ((order_words (regions q t)).count r) 0 (sym is ∙ e)) in
         record {
-          low = omega arith;
           stands = below_more (λ c. ((order_words (regions q t)).count c ≡ 0 → ⊥) → Stands q t c) r m.stands (λ n. absurd (n (sym is ∙ e)));
           firsts = m.firsts;
           nexts = m.nexts + 0;
           heads = m.heads;
-          counts = counts_none m.counts none refl refl;
+          counts = counts_next m.counts none refl;
           sum = omega (arith, m.sum);
         }
 
@@ -119,23 +97,16 @@ module _ {q : ℕ} {t : List ℕ} {r links : ℕ} (m : Walked q t r links) where
       on : x ≡ onward q t r
       on = next ∙ rw (ne_eqb ((order_words (regions q t)).count r) 0 (λ e. n (is ∙ e)))
 
-      more : (v : ℕ) → Counts (onward q t) (r + 1) (m.nexts + v) → Walked q t (r + 1) (links + v)
-      more v c =
+      pub walked_on : {v : ℕ} → v ≡ from_bool (not (eqb x kind.none)) → Walked q t (r + 1) (links + v)
+      walked_on {v} e =
           record {
-            low = omega arith;
             stands = below_more (λ c. ((order_words (regions q t)).count c ≡ 0 → ⊥) → Stands q t c) r m.stands (λ z. s);
             firsts = m.firsts;
             nexts = m.nexts + v;
             heads = m.heads;
-            counts = c;
+            counts = counts_next m.counts on e;
             sum = omega (arith, m.sum);
           }
-
-      pub walked_end : {v : ℕ} → x ≡ kind.none → v ≡ 0 → Walked q t (r + 1) (links + v)
-      walked_end {v} e z = more v (counts_none m.counts on e z)
-
-      pub walked_on : {v : ℕ} → (x ≡ kind.none → ⊥) → v ≡ 1 → Walked q t (r + 1) (links + v)
-      walked_on {v} e z = more v (counts_one m.counts on e z)
 
 -- check_lookup: a yes of the quick test is enough
 pub quick : {q : ℕ} {t : List ℕ} {n : ℕ} {ok : Bool} → Sized q t → (ok ≡ true → Reached q t n) → ok ≡ true → Checked q t n ok

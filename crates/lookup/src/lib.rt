@@ -7,17 +7,17 @@ ghost use Rattle.table.specs.Kind as kind;
 ghost use Rattle.table.specs.Regions.{Sized, Writes, client_word, bucket_word};
 ghost use Rattle.rules.specs.Rows.{In, NotIn};
 ghost use Rattle.rules.specs.Linked.{Link};
-ghost use Rattle.rules.specs.Spread.{IsSpread};
 ghost use Rattle.rules.specs.Draw.{before};
 ghost use Rattle.rules.specs.Tells.{Tells};
 ghost use Rattle.lookup.specs.Promise.{Kept, Found, Home, Seeks, Enters, Leaves, Checked};
 ghost use Rattle.lookup.specs.Inside.Filed.{hook, leave_at};
 ghost use Rattle.lookup.specs.Inside.Reading.{id_of, next_of, from, Ends, Reaches, OwnIds, Fits, Left, filled, Comes, Stands, Reached};
 
+use spread::Spread;
 use table::LinkedTable;
 
-// Where an id was sought: its client's row, or none; and its bucket, which only the lookup reads.
-#[derive(Clone, Copy)]
+// Where an id was sought: its client's row or none, as a link word has it, for the layers above know rows by their links; and its bucket, which only the lookup reads.
+#[derive(Clone, Copy, Debug, PartialEq, Eq)]
 pub struct Sought {
     pub row: u32,
     bucket: usize,
@@ -30,6 +30,8 @@ enum Key {
 }
 
 // The row with that id on a chain that ends, or none.
+// No iterator over a chain: this walk and that of `long_own_ids` would be plainer with one, but the others
+// stop at a row, go on from the row after, or test a row before its link is read.
 fn seek(t: &[u32], q: usize, first: u32, id: u32) -> u32
     requires sized { Sized q t.now }
     requires ends { Ends q (next_of q t.now) first }
@@ -46,13 +48,13 @@ fn seek(t: &[u32], q: usize, first: u32, id: u32) -> u32
 }
 
 // The client of that id, or none.
-pub fn find(t: &[u32], q: usize, s: &[u32; 1024], id: u32) -> Sought
+pub fn find(t: &[u32], q: usize, s: &Spread, id: u32) -> Sought
     requires sized { Sized q t.now }
-    requires q_nonzero { (0 < q) × IsSpread s.now }
+    requires q_nonzero { 0 < q }
     requires kept { Kept q t.now }
     ensures { Seeks q t.now id result }
 {
-    let bucket = spread::bucket_in(s, id, q);
+    let bucket = s.bucket_in(id, q);
     let first = table::bucket(t, q, bucket);
     let row = seek(t, q, first, id);
     Sought { row, bucket }
@@ -117,24 +119,23 @@ fn unhook(t: &mut [u32], q: usize, b: usize, e: u32, r: u32)
 }
 
 // The row, a client's, leaves its bucket; the order of the rest is kept.
-pub fn leave(t: &mut [u32], q: usize, s: &[u32; 1024], r: u32)
+pub fn leave(t: &mut [u32], q: usize, s: &Spread, r: u32)
     requires sized { Sized q t.old }
-    requires r_lt_q { (r < q) × IsSpread s.now }
+    requires r_lt_q { r < q }
     requires a_client { (K : Kept q t.old) × In r K.clients }
     ensures leaves { Leaves q t.old t.new r }
     ensures still_sized { Sized q t.new }
 {
     let id = table::client(t, q, r, LinkedTable::ID);
-    let b = spread::bucket_in(s, id, q);
+    let b = s.bucket_in(id, q);
     let first = table::bucket(t, q, b);
     let e = behind(t, q, first, r);
     unhook(t, q, b, e, r);
 }
 
 // Whether the row may stand in bucket b.
-fn fits(t: &[u32], q: usize, s: &[u32; 1024], b: usize, r: u32) -> bool
+fn fits(t: &[u32], q: usize, s: &Spread, b: usize, r: u32) -> bool
     requires sized { Sized q t.now }
-    requires spread { IsSpread s.now }
     ensures { Tells result (Fits q t.now b r) }
 {
     if r as usize >= q {
@@ -144,28 +145,24 @@ fn fits(t: &[u32], q: usize, s: &[u32; 1024], b: usize, r: u32) -> bool
         return false;
     }
     let id = table::client(t, q, r, LinkedTable::ID);
-    spread::bucket_in(s, id, q) == b
+    s.bucket_in(id, q) == b
 }
 
-// The room that is left after the chain of bucket b from `first` on; 0 where the chain is wrong or has no room.
-fn room_after(t: &[u32], q: usize, s: &[u32; 1024], b: usize, first: u32, room: usize) -> usize
+// The room that is left after the chain of bucket b from `first` on, where the chain is right and there is room for it.
+fn room_after(t: &[u32], q: usize, s: &Spread, b: usize, first: u32, room: usize) -> Option<usize>
     requires sized { Sized q t.now }
-    requires spread { IsSpread s.now }
     ensures { Left q t.now b first room result }
 {
     let mut left = room;
     let mut at = first;
     while at != LinkedTable::NONE {
-        if left == 0 {
-            return 0;
-        }
         if !fits(t, q, s, b, at) {
-            return 0;
+            return None;
         }
+        left = left.checked_sub(1)?;
         at = table::client(t, q, at, LinkedTable::NEXT_IN_BUCKET);
-        left -= 1;
     }
-    left
+    Some(left)
 }
 
 // Whether each row of a short chain that ends has an id of its own: no row after it has that.
@@ -185,21 +182,8 @@ fn short_own_ids(t: &[u32], q: usize, first: u32) -> bool
     true
 }
 
-// Whether none of the first n numbers is x. (No early exit: the loop is turned into vector code.)
-fn nowhere(a: &[u32; LinkedTable::LARGEST], n: usize, x: u32) -> bool
-    requires { (n ≤ kind.largest) × (length a.now ≡ kind.largest) }
-    ensures { Tells result (NotIn x (take n a.now)) }
-{
-    let mut hits: u32 = 0;
-    let mut i: usize = 0;
-    while i < n {
-        hits += if a[i] == x { 1 } else { 0 };
-        i += 1;
-    }
-    hits == 0
-}
-
 // Whether each row of a long chain that ends has an id of its own: the ids are copied side by side, and each is compared with those before it.
+// An array with its length beside it: memory is fixed, and there is no heap.
 fn long_own_ids(t: &[u32], q: usize, first: u32) -> bool
     requires sized { Sized q t.now }
     requires ends { Ends q (next_of q t.now) first }
@@ -210,7 +194,7 @@ fn long_own_ids(t: &[u32], q: usize, first: u32) -> bool
     let mut at = first;
     while at != LinkedTable::NONE {
         let x = table::client(t, q, at, LinkedTable::ID);
-        if !nowhere(&ids, n, x) {
+        if ids[..n].contains(&x) {
             return false;
         }
         ids[n] = x;
@@ -240,27 +224,22 @@ fn own_ids(t: &[u32], q: usize, first: u32, n: usize) -> bool
 }
 
 // The exact test, for n clients: every chain is right, and together they hold n rows.
-fn by_buckets(t: &[u32], q: usize, s: &[u32; 1024], n: u32) -> bool
+fn by_buckets(t: &[u32], q: usize, s: &Spread, n: u32) -> bool
     requires sized { Sized q t.now }
-    requires spread { IsSpread s.now }
     ensures { Checked q t.now n result }
 {
-    // One more than the rows that may follow: 0 is for a chain that is wrong.
-    let mut room = n as usize + 1;
-    let mut b: usize = 0;
-    while b < q {
+    let mut room = n as usize;
+    for b in 0..q {
         let first = table::bucket(t, q, b);
-        let left = room_after(t, q, s, b, first, room);
-        if left == 0 {
+        let Some(left) = room_after(t, q, s, b, first, room) else {
             return false;
-        }
+        };
         if !own_ids(t, q, first, room - left) {
             return false;
         }
         room = left;
-        b += 1;
     }
-    room == 1
+    room == 0
 }
 
 // How many buckets hold a row.
@@ -268,15 +247,9 @@ fn heads(t: &[u32], q: usize) -> u32
     requires { Sized q t.now }
     ensures { result ≡ length (filled (bucket_word t.now q) q) }
 {
-    let mut n: u32 = 0;
-    let mut k: usize = 0;
-    while k < q {
-        n += if table::bucket(t, q, k) == LinkedTable::NONE {
-            0
-        } else {
-            1
-        };
-        k += 1;
+    let mut n = 0;
+    for k in 0..q {
+        n += u32::from(table::bucket(t, q, k) != LinkedTable::NONE);
     }
     n
 }
@@ -289,11 +262,12 @@ fn comes_to(t: &[u32], q: usize, first: u32, r: u32, x: u32) -> bool
     requires { Sized q t.now }
     ensures { result ≡ true → Comes q t.now first r x }
 {
-    let rows = q as u32;
     let mut at = first;
-    let mut left = MOST_STEPS;
-    while at != r {
-        if left == 0 || rows <= at {
+    for _ in 0..MOST_STEPS {
+        if at == r {
+            return true;
+        }
+        if at as usize >= q {
             return false;
         }
         let count = table::client(t, q, at, LinkedTable::COUNT);
@@ -302,52 +276,43 @@ fn comes_to(t: &[u32], q: usize, first: u32, r: u32, x: u32) -> bool
             return false;
         }
         at = table::client(t, q, at, LinkedTable::NEXT_IN_BUCKET);
-        left -= 1;
     }
-    true
+    at == r
 }
 
 // Whether row r is come to in its id's bucket. Most rows are the first there.
-fn stands(t: &[u32], q: usize, s: &[u32; 1024], r: u32) -> bool
+fn stands(t: &[u32], q: usize, s: &Spread, r: u32) -> bool
     requires sized { Sized q t.now }
-    requires r_lt_q { (r < q) × IsSpread s.now }
+    requires r_lt_q { r < q }
     ensures { result ≡ true → Stands q t.now r }
 {
     let id = table::client(t, q, r, LinkedTable::ID);
-    let home = spread::bucket_in(s, id, q);
+    let home = s.bucket_in(id, q);
     let first = table::bucket(t, q, home);
     comes_to(t, q, first, r, id)
 }
 
 // The quick test, for n clients, which a crowded bucket fails: each is come to in its bucket, and n pointers hold a row, so that none leads elsewhere.
-fn by_clients(t: &[u32], q: usize, s: &[u32; 1024], n: u32) -> bool
+fn by_clients(t: &[u32], q: usize, s: &Spread, n: u32) -> bool
     requires sized { Sized q t.now }
-    requires spread { IsSpread s.now }
     ensures { result ≡ true → Reached q t.now n }
 {
-    let rows = q as u32;
     let mut links = heads(t, q);
-    let mut r: u32 = 0;
-    while r < rows {
+    for r in 0..q as u32 {
         if table::client(t, q, r, LinkedTable::COUNT) != 0 {
             if !stands(t, q, s, r) {
                 return false;
             }
-            links += if table::client(t, q, r, LinkedTable::NEXT_IN_BUCKET) == LinkedTable::NONE {
-                0
-            } else {
-                1
-            };
+            let next = table::client(t, q, r, LinkedTable::NEXT_IN_BUCKET);
+            links += u32::from(next != LinkedTable::NONE);
         }
-        r += 1;
     }
     links == n
 }
 
 // The lookup's part of the soundness check, for n clients: the quick test, which says nothing where it fails, or the exact one.
-pub fn check_lookup(t: &[u32], q: usize, s: &[u32; 1024], n: u32) -> bool
+pub fn check_lookup(t: &[u32], q: usize, s: &Spread, n: u32) -> bool
     requires sized { Sized q t.now }
-    requires spread { IsSpread s.now }
     ensures { Checked q t.now n result }
 {
     by_clients(t, q, s, n) || by_buckets(t, q, s, n)

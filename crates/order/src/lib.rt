@@ -7,12 +7,12 @@ ghost use Rattle.table.specs.Kind as kind;
 ghost use Rattle.table.specs.Regions.{Sized, Writes, client_word, count_word};
 ghost use Rattle.rules.specs.Rows.{In};
 ghost use Rattle.rules.specs.Linked.{Link};
-ghost use Rattle.rules.specs.Spread.{IsSpread};
 ghost use Rattle.lookup.specs.Promise.{Home, Kept};
 ghost use Rattle.order.specs.Moves.{or_else, leave_group, enter_group, take_out, put_in, move_after, move_before, raised, lowered, take_row, one_more, one_less, clear_row, free_row};
 ghost use Rattle.order.specs.Asks.{Drawn, Listed, Vacant, Strung, Admits, Dismisses};
 
 use lookup::Sought;
+use spread::Spread;
 use table::LinkedTable;
 
 // r leaves the group of count row k: an end that it is becomes its neighbour inside, and none where nobody is left.
@@ -230,9 +230,8 @@ fn one_less(t: &mut [u32], q: usize)
 }
 
 // A client goes, out of its bucket, its group and the list, and its row becomes the first free one.
-pub fn dismiss(t: &mut [u32], q: usize, s: &[u32; 1024], r: u32)
+pub fn dismiss(t: &mut [u32], q: usize, s: &Spread, r: u32)
     requires sized { Sized q t.old }
-    requires spread { IsSpread s.now }
     requires drawn { Drawn q t.old (Listed q r (λ m. Unit {0})) }
     requires a_client { (K : Kept q t.old) × In r K.clients }
     ensures dismisses { Dismisses q t.old t.new r }

@@ -1,13 +1,13 @@
 -- The count rows are not looked at between the groups: that as many of their words hold a row as the groups have ends tells that the others hold none.
-use mathlib.Core.Bool.{Bool, true, false, cond}
+use mathlib.Core.Bool.{Bool, true, false, cond, not}
 use mathlib.Core.Path.{◌≡◌, refl, sym, ap, ◌∙◌}
 use mathlib.Core.Logic.{◌↔◌, ⊎_elim}
 use Prim.Native.Nat.{ℕ, zero, suc, ◌+◌, ◌-◌, ◌*◌, ◌≤◌, ◌<◌}
 use native.Mathlib.Nat.{eq-or-lt_of_le}
-use native.Mathlib.Numerals.{add-one}
 use native.Mathlib.Omega.{arith}
 use lib.Dec.{eqb}
-use borrow.Author.Tests.{eq-eqb, ne_eqb, eqb-true}
+use borrow.Author.Tests.{eq-eqb, ne_eqb, eqb-true, eqb-false}
+use Rattle.std.specs.Int.{from_bool}
 use Rattle.table.specs.Kind as kind
 use Rattle.table.specs.Owners.{OrderWords}
 use Rattle.free_check.specs.Listed.{Listed}
@@ -38,9 +38,6 @@ module _ (O : OrderWords) where
   pub held_few : (k : ℕ) → rows_held O k ≤ 2 * k
   held_few zero = omega arith
   held_few (suc k) = omega (arith, held_few k, holds_few (O.light_end k), holds_few (O.heavy_end k))
-
-  pub held_on : (k n a b : ℕ) → n ≡ rows_held O k → a ≡ one_if_row (O.light_end k) → b ≡ one_if_row (O.heavy_end k) → n + (a + b) ≡ rows_held O (k + 1)
-  held_on k n a b e f g = rw add-one (omega arith)
 
   held_more : (f m : ℕ) → f ≤ m → rows_held O f ≤ rows_held O m
   held_more f zero h = let z : f ≡ 0 = omega arith in rw z (omega arith)
@@ -116,7 +113,7 @@ module _ (q : ℕ) (O : OrderWords) (n at prev floor groups : ℕ) {W : Type 0} 
 
     module _ (l : at < q) (j : Joins q O at (O.count at) prev floor) where
       -- a row of the same group, or the first of another
-      pub go_on : (v : ℕ) → O.count at ≡ floor → v ≡ 0 → Walked q O (n - 1) (O.heavier at) at (O.count at) (groups + v) W
+      go_on : (v : ℕ) → O.count at ≡ floor → v ≡ 0 → Walked q O (n - 1) (O.heavier at) at (O.count at) (groups + v) W
       go_on v e z =
           let g = w.met in
           let t = turn q O n at prev floor h in
@@ -136,7 +133,7 @@ module _ (q : ℕ) (O : OrderWords) (n at prev floor groups : ℕ) {W : Type 0} 
             );
           }
 
-      pub go_new : (v : ℕ) → (O.count at ≡ floor → ⊥) → v ≡ 1 → Walked q O (n - 1) (O.heavier at) at (O.count at) (groups + v) W
+      go_new : (v : ℕ) → (O.count at ≡ floor → ⊥) → v ≡ 1 → Walked q O (n - 1) (O.heavier at) at (O.count at) (groups + v) W
       go_new v e z =
           let g = w.met in
           let t = turn q O n at prev floor h in
@@ -159,21 +156,18 @@ module _ (q : ℕ) (O : OrderWords) (n at prev floor groups : ℕ) {W : Type 0} 
             );
           }
 
+      -- the number of groups goes up by one for the first of another
+      pub goes : (v : ℕ) → v ≡ from_bool (not (eqb (O.count at) floor)) → Walked q O (n - 1) (O.heavier at) at (O.count at) (groups + v) W
+      goes v e = go (eqb (O.count at) floor) refl
+        where
+          go : (b : Bool) → eqb (O.count at) floor ≡ b → Walked q O (n - 1) (O.heavier at) at (O.count at) (groups + v) W
+          go true z = go_on v (eqb-true (O.count at) floor z) (e ∙ ap (λ (b : Bool). from_bool (not b)) z)
+          go false z = go_new v (eqb-false (O.count at) floor z) (e ∙ ap (λ (b : Bool). from_bool (not b)) z)
+
   -- none more
   module _ (h : n ≤ 0) where
-    pub ended : W → ((at ≡ kind.none) × (O.heaviest ≡ prev)) × Last O floor prev
-    ended x = let p = (stop q O n at prev floor h).1 (w.so.1 x).1 in (p.0, p.1)
-
     pub all_held : (at ≡ kind.none) × (O.heaviest ≡ prev) → Last O floor prev → (rows_held O q ≡ 2 * groups) ↔ W
     all_held e last =
         let s = stop q O n at prev floor h in
         let a = alone_bare w.met last q w.met.most in
         (λ n. let i = a.0 n in w.so.0 (i.0, s.0 (e, last, i.1)), λ x. let p = w.so.1 x in a.1 (p.0, (s.1 p.1).2))
-
--- before the first row
-pub start : {q : ℕ} {O : OrderWords} {n at : ℕ} → Walked q O n at kind.none 0 0 (Listed n (Follows q O at kind.none 0))
-start =
-    record {
-      met = record { most = omega arith; fewer = omega arith; some = λ m. absurd (omega arith); row = λ m u. omega arith; light = λ k u y. omega arith; few = omega arith };
-      so = (λ p. p.1, λ l. (refl, l));
-    }

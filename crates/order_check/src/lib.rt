@@ -16,21 +16,19 @@ use table::LinkedTable;
 fn one_if_row(x: u32) -> u32
     ensures { result ≡ one_if_row x }
 {
-    if x == LinkedTable::NONE { 0 } else { 1 }
+    u32::from(x != LinkedTable::NONE)
 }
 
-// How many words of the count rows hold a row. (No early exit: the loop is turned into vector code.)
+// How many words of the count rows hold a row. No early exit: the loop is turned into vector code.
 fn rows_held(t: &[u32], q: usize) -> u32
     requires { Sized q t.now }
     ensures { result ≡ rows_held (order_words (regions q t.now)) q }
 {
-    let mut n: u32 = 0;
-    let mut k: usize = 0;
-    while k < q {
+    let mut n = 0;
+    for k in 0..q {
         let light = table::count_end(t, q, k, LinkedTable::LIGHT_END);
         let heavy = table::count_end(t, q, k, LinkedTable::HEAVY_END);
         n += one_if_row(light) + one_if_row(heavy);
-        k += 1;
     }
     n
 }
@@ -72,12 +70,12 @@ fn ranked(t: &[u32], q: usize) -> bool
     ensures { Tells result (Ranked q (order_words (regions q t.now))) }
 {
     let rows = q as u32;
-    let mut left = table::header(t, q, LinkedTable::CLIENTS_AT);
+    let clients = table::header(t, q, LinkedTable::CLIENTS_AT);
     let mut at = table::header(t, q, LinkedTable::LIGHTEST_AT);
     let mut prev = LinkedTable::NONE;
-    let mut floor: usize = 0;
-    let mut groups: u32 = 0;
-    while 0 < left {
+    let mut floor = 0;
+    let mut groups = 0;
+    for _ in 0..clients {
         if rows <= at {
             return false;
         }
@@ -86,11 +84,10 @@ fn ranked(t: &[u32], q: usize) -> bool
         if !joins(t, q, at, count, prev, floor) {
             return false;
         }
-        groups += if count == floor { 0 } else { 1 };
+        groups += u32::from(count != floor);
         prev = at;
         floor = count;
         at = heavier;
-        left -= 1;
     }
     let heaviest = table::header(t, q, LinkedTable::HEAVIEST_AT);
     if at != LinkedTable::NONE || heaviest != prev || !ended(t, q, floor, prev) {

@@ -8,6 +8,8 @@ use native.Mathlib.Nat.{pow-suc}
 use native.Mathlib.Omega.{arith}
 use lib.ListN.{length, length-append}
 use borrow.Author.Tests.{lt-ltb, le-ltb}
+use Rattle.std.specs.Prelude.{decimal as library_decimal}
+use Rattle.std.proofs.lemmas.Fmt.{decimal_by_steps}
 use Rattle.page.specs.Text.{digit, digits, decimal}
 
 small : (k n : ℕ) → n < 10 → digits (suc k) n ≡ digit n ∷ []
@@ -39,11 +41,6 @@ decimal_more n h = rw (more n n h, enough n (suc (n / 10)) (n / 10) (omega arith
 pub length_more : (n : ℕ) → 10 ≤ n → length (decimal n) ≡ length (decimal (n / 10)) + 1
 length_more n h = rw (decimal_more n h, length-append)
 
-pub length_some : (n : ℕ) → 1 ≤ length (decimal n)
-length_some n =
-    by_cases (dec_lt n 10) (λ h. rw (decimal_small n h) (omega arith))
-    (λ h. rw (length_more n (omega arith)) (omega arith))
-
 -- k digits are enough for each number below 10 ^ k
 pub length_most : (k n : ℕ) → 1 ≤ k → n < 10 ^ k → length (decimal n) ≤ k
 length_most zero n p h = omega arith
@@ -55,6 +52,11 @@ length_most (suc (suc k)) n p h =
 -- a word of 64 bits has at most twenty digits
 pub length_word : (n : ℕ) → n < 2 ^ 64 → length (decimal n) ≤ 20
 length_word n h = length_most 20 n (omega arith) (omega arith)
+
+-- the library's decimals of a word are these
+pub library : (n : ℕ) → n < 2 ^ 64 → library_decimal n ≡ decimal n
+library n h =
+    decimal_by_steps (λ m ds. ds ≡ decimal m) (λ m l. rw (decimal_small m l)) (λ m ds l e. rw (decimal_more m l, e)) n h
 
 -- three cases: zero, zeros inside and at the end, and the largest word
 none : decimal 0 ≡ 48 ∷ []

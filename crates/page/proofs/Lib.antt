@@ -3,5 +3,4 @@ pub mod Decimal
 pub mod Put
 pub mod Begun
 pub mod Long
-mod Number
 mod Form

@@ -1,12 +1,12 @@
 -- Texts that are put into bytes, one after the other.
-use mathlib.Core.List.{List, [], ◌∷◌, ◌++◌, append_assoc}
+use mathlib.Core.List.{List, ◌++◌, append_assoc}
 use mathlib.Core.Path.{◌≡◌, refl}
-use Prim.Native.Nat.{ℕ, suc, ◌+◌, ◌≤◌, ◌<◌}
-use native.Mathlib.Nat.{add_assoc, add-suc}
-use native.Mathlib.Numerals.{add-one}
+use Prim.Native.Nat.{ℕ, ◌+◌, ◌-◌, ◌≤◌}
+use native.Mathlib.Nat.{add_assoc}
 use native.Mathlib.Omega.{arith}
-use lib.ListN.{length, take, drop, set, length-append, length-drop}
-use lib.Seq.{length-take-le, take_at, drop_at, drop-drop, drop-append-add, take-set-le, set_split, append_snoc}
+use lib.ListN.{length, take, drop, length-append, length-drop}
+use lib.Seq.{length-take-le, take_at, drop-drop, drop-append-add}
+use borrow.Rule.Slice.PartMut.{put_mid}
 use Rattle.page.specs.Put.{written, Room, Put}
 
 -- the bytes up to the end of what is written
@@ -29,26 +29,18 @@ split : (at : ℕ) (s out : List ℕ) → written at s out ≡ take at out ++ s 
 unfolding written
 split at s out = refl
 
+-- a part that is as long as s, once s is copied into it
+pub copied : (at : ℕ) (s out part : List ℕ) → part ≡ s → put_mid at (at + length s - at) out part ≡ written at s out
+unfolding written
+copied at s out part e =
+    let long : at + length s - at ≡ length s = omega arith in
+    rw (e, long, drop-drop, append_assoc)
+
 -- one text after the other is both at once
 pub written_append : (at : ℕ) (s t out : List ℕ) → at ≤ length out → written (at + length s) t (written at s out) ≡ written at (s ++ t) out
 written_append at s t out h =
     rw (split (at + length s) t (written at s out), split at (s ++ t) out, take_written at s out, drop_written at s (length t) out)
     (simp (append_assoc, length-append, add_assoc))
-
-drop_set : (i : ℕ) (d : ℕ) (out : List ℕ) → i < length out → drop i (set out i d) ≡ d ∷ drop (suc i) out
-drop_set i d out h = rw (set_split out i d h) (drop_at (take i out) _ i (length-take-le i out (omega arith)))
-
--- a byte, and then the text before it
-pub written_last : (at : ℕ) (s : List ℕ) (d : ℕ) (out : List ℕ) → at + length s < length out → written at s (set out (at + length s) d) ≡ written at (s ++ (d ∷ [])) out
-unfolding written
-written_last at s d out h =
-    rw (take-set-le at out (at + length s) d (omega arith), drop_set (at + length s) d out h, length-append)
-    (simp (append_assoc, add-one, add-suc))
-
--- a byte is a text of one
-pub written_one : (at d : ℕ) (out : List ℕ) → at < length out → set out at d ≡ written at (d ∷ []) out
-unfolding written
-written_one at d out h = rw (set_split out at d h, add-one, append_snoc)
 
 -- what has room has room for its first part
 pub room_first : {out : List ℕ} {at : ℕ} {s : List ℕ} (t : List ℕ) → Room out at (s ++ t) → Room out at s
@@ -71,7 +63,3 @@ module _ {out : List ℕ} {at : ℕ} {s out' : List ℕ} {r : ℕ} (p : Put out 
         bytes = cc (written_append at s t out (omega arith));
         place = omega (arith, length-append s t);
       }
-
--- a byte that is stored
-pub put_one : {out : List ℕ} {at d : ℕ} → Room out at (d ∷ []) → Put out at (d ∷ []) (set out at d) (at + 1)
-put_one {out} {at} {d} h = record { room = h; bytes = written_one at d out (omega arith); place = omega arith }

@@ -11,7 +11,8 @@ use lib.Seq.{take_at, length-take-le}
 use borrow.Author.Tests.{le-ltb}
 use Rattle.rules.specs.History.{Request, Waiting, pairs, given, heaviest}
 use Rattle.answers.specs.Engine.{needed, listing}
-use Rattle.answers.specs.declared.Listing.TheVariants as listings
+use Rattle.std.specs.Prelude.{Result, Ok, IsOk}
+use Rattle.answers.specs.declared.Refusal.{Refusal}
 use Rattle.questions.specs.Output.{listed_words}
 
 -- two words a client
@@ -28,15 +29,12 @@ module _ (q : ℕ) (s : Waiting) (ps : List ℕ) (h : 2 * q ≤ length ps) where
   has_room : ltb (length ps) (needed q s) ≡ false
   has_room = le-ltb (length ps) (needed q s) (omega (arith, min-le_left q (length s.order)))
 
-  pub never_refused : listings.NoRoom ≡ listing q (length ps) s → ⊥
-  never_refused e =
-      let is : listings.NoRoom ≡ listings.Pairs (given q s) = e ∙ rw has_room in
-      let z : ◌≡◌ {A = ℕ} 0 1 = cc in
-      omega arith
+  pub never_refused : {r : Result ℕ Refusal} → r ≡ listing q (length ps) s → IsOk r
+  never_refused e = rw (e, has_room) refl
 
-  module _ {n : ℕ} (e : listings.Pairs n ≡ listing q (length ps) s) where
+  module _ {n : ℕ} (e : Ok n ≡ listing q (length ps) s) where
     everyone : n ≡ given q s
-    everyone = let is : listings.Pairs n ≡ listings.Pairs (given q s) = e ∙ rw has_room in cc
+    everyone = let is : Ok n ≡ Ok (given q s) = e ∙ rw has_room in cc
 
     pub listed_few : 2 * n ≤ length ps
     listed_few = omega (arith, everyone, min-le_left q (length s.order))

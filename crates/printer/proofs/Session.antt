@@ -24,6 +24,7 @@ use Rattle.layout.proofs.After.{laid_table}
 use Rattle.answers.specs.declared.Report.{Report}
 use Rattle.answers.specs.Numbers.{report_numbers}
 use Rattle.run.specs.Runs.{reported}
+use Rattle.run.proofs.Stops.{stop_said}
 use Rattle.page.specs.Form.{filled}
 use Rattle.page.specs.Put.{Room, Put}
 use Rattle.page.proofs.Put.{room_first, room_next, put_then}
@@ -59,7 +60,7 @@ module _ (q : ℕ) (range : in_range q ≡ true) where
     -- the commands s are run, which reports r and leaves t'
     module _ (s : List ℕ) {r : Report} (told : r ≡ reported (picture t) budget s) where
       report_told : filled report_form (report_numbers r) ≡ report q s
-      report_told = rw (told, fresh_picture, outcomes_length (limits q) nobody (carried budget s))
+      report_told = rw (told, fresh_picture, stop_said budget s, outcomes_length (limits q) nobody (carried budget s))
 
       pub line_room : {out : List ℕ} → Room out 0 (session q s) → Room out 0 (filled report_form (report_numbers r))
       line_room h = rw report_told (room_first (clients q s) h)

@@ -14,7 +14,7 @@ ghost use Rattle.page.specs.Put.{Room, Put};
 ghost use Rattle.answers.specs.Numbers.{report_numbers};
 ghost use Rattle.printed.specs.Printed.{refused, report_form, client_form, client_lines, in_range, places_in, session, printed};
 
-use answers::{Listing, Refusal, Report};
+use answers::{Refusal, Report, Stop};
 use command::Command;
 use table::LinkedTable;
 
@@ -38,7 +38,7 @@ pub fn refuse(out: &mut [u8], n: u32) -> usize
     requires { Room out.old 0 (refused n) }
     ensures { Put out.old 0 (refused n) out.new result }
 {
-    page::put_form(out, 0, b"refused #\n", &[n as u64])
+    page::put_form(out, 0, b"refused #\n", &[u64::from(n)])
 }
 
 // The line of a report.
@@ -51,7 +51,7 @@ fn line(out: &mut [u8], r: Report) -> usize
         0,
         b"stop # done # joined # evicted # passed # served # turned # idle #\n",
         &[
-            r.stop as u64,
+            u64::from(u32::from(r.stop)),
             r.done,
             r.joined,
             r.evicted,
@@ -68,7 +68,7 @@ fn client(out: &mut [u8], at: usize, id: u32, count: u32) -> usize
     requires { Room out.old at (filled client_form (id ∷ count ∷ [])) }
     ensures { Put out.old at (filled client_form (id ∷ count ∷ [])) out.new result }
 {
-    page::put_form(out, at, b"# #\n", &[id as u64, count as u64])
+    page::put_form(out, at, b"# #\n", &[u64::from(id), u64::from(count)])
 }
 
 // A line for each id and count pair, from place `at` on.
@@ -77,10 +77,10 @@ pub fn lines(out: &mut [u8], at: usize, pairs: &[u32]) -> usize
     ensures { Put out.old at (client_lines pairs.now) out.new result }
 {
     let mut end = at;
-    let mut i = 0;
-    while i + 1 < pairs.len() {
-        end = client(out, end, pairs[i], pairs[i + 1]);
-        i += 2;
+    let mut rest = pairs;
+    while let [id, count, more @ ..] = rest {
+        end = client(out, end, *id, *count);
+        rest = more;
     }
     end
 }
@@ -91,13 +91,8 @@ fn list(t: &[u32], q: usize, pairs: &mut [u32], out: &mut [u8], at: usize) -> us
     requires room { Room out.old at (client_lines (heaviest q (plain (picture t.now)))) }
     ensures { Put out.old at (client_lines (heaviest q (plain (picture t.now)))) out.new result }
 {
-    match questions::heaviest(t, q, q, pairs) {
-        Listing::Pairs(n) => {
-            let words = 2 * n;
-            lines(out, at, &pairs[..words])
-        }
-        Listing::NoRoom => at,
-    }
+    let n = questions::heaviest(t, q, q, pairs).unwrap();
+    lines(out, at, &pairs[..2 * n])
 }
 
 // Runs the commands on a table of q places where nobody waits: the report, and then the clients.
@@ -119,16 +114,9 @@ fn batch(t: &mut [u32], q: usize, commands: &[u8], pairs: &mut [u32], out: &mut 
     requires room { Room out.old 0 (session q commands.now) }
     ensures { Put out.old 0 (session q commands.now) out.new result }
 {
-    layout::lay_out(t, q);
+    let _ = layout::lay_out(t, q);
     let words = LinkedTable::size(q);
     carry_out(&mut t[..words], q, commands, pairs, out)
-}
-
-// A byte as a number.
-fn wide(x: u8) -> usize
-    ensures { (result ≡ x) × (result < 256) }
-{
-    x as usize
 }
 
 // Q in the first 2 bytes, lowest first.
@@ -136,14 +124,14 @@ fn places(input: &[u8]) -> usize
     requires { 2 ≤ length input.now }
     ensures { result ≡ places_in input.now }
 {
-    wide(input[0]) + 256 * wide(input[1])
+    usize::from(u16::from_le_bytes([input[0], input[1]]))
 }
 
 // Whether the printer takes a window of q places.
 fn in_range(q: usize) -> bool
     ensures { result ≡ in_range q }
 {
-    1 <= q && q <= PLACES
+    (1..=PLACES).contains(&q)
 }
 
 // What is printed for an input: its bytes in front, the rest of the page as it was, and how many they are.
@@ -154,14 +142,14 @@ pub fn print(input: &[u8], out: &mut [u8; PAGE]) -> usize
     ensures part { (result ≤ length out.new) × (result ≡ length (take result out.new)) }
 {
     if INPUT < input.len() {
-        return refuse(out, Refusal::OVERLONG);
+        return refuse(out, u32::from(Refusal::Overlong));
     }
     if input.len() < 2 {
-        return refuse(out, Report::CUT);
+        return refuse(out, u32::from(Stop::Cut));
     }
     let q = places(input);
     if !in_range(q) {
-        return refuse(out, Refusal::OUT_OF_RANGE);
+        return refuse(out, u32::from(Refusal::OutOfRange));
     }
     let mut t = [0u32; TABLE];
     let mut pairs = [0u32; PAIRS];

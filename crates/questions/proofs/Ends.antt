@@ -1,42 +1,50 @@
--- The ends by cases, and that their words are words of the header and of a client row.
-use mathlib.Core.Bool.{true}
-use mathlib.Core.List.{[], ◌∷◌}
-use mathlib.Core.Path.{◌≡◌, sym, subst}
-use mathlib.Core.Logic.{⊎_elim}
-use Prim.Native.Nat.{ℕ, ◌<◌}
-use lib.Dec.{lit<}
+-- The ends where a question starts: those of the clients' order, and those of a client's own requests.
+use mathlib.Core.List.{List, reverse}
+use Prim.Native.Nat.{ℕ}
+use lib.ListN.{take}
 use Rattle.table.specs.Kind as kind
-use Rattle.rules.proofs.Decide.{has_decides}
-use Rattle.questions.specs.Ends.{order_end, onward, own_end}
+use Rattle.rules.specs.Rows.{head_or, last_or}
+use Rattle.rules.specs.History.{Waiting, given, pairs, oldest_ticket, newest_ticket}
 
--- through the clients: the header word that starts, and the client word that leads on
-pub data Way : ℕ → ℕ → Type 0 where
-  lightest_first : Way kind.lightest_at kind.heavier
-  heaviest_first : Way kind.heaviest_at kind.lighter
+-- the clients, from either end of their order
+pub data Way : Type 0 where
+  lightest_first : Way
+  heaviest_first : Way
 
-pub way : {end link : ℕ} → order_end end ≡ true → link ≡ onward end → Way end link
-way {end} o l =
-    rw l
-    (⊎_elim (λ e. subst (λ (z : ℕ). Way z (onward z)) (sym e) lightest_first) (⊎_elim (λ e. subst (λ (z : ℕ). Way z (onward z)) (sym e) heaviest_first) (λ n. absurd n))
-    ((has_decides end (kind.lightest_at ∷ kind.heaviest_at ∷ [])).0 o))
+-- the header word that holds the first, and the client word that leads on from there
+abbrev pub start : Way → ℕ
+start lightest_first = kind.lightest_at
+start heaviest_first = kind.heaviest_at
 
-pub way_end : {end link : ℕ} → Way end link → end < kind.header_words
-way_end lightest_first = lit< tt
-way_end heaviest_first = lit< tt
+abbrev pub onward : Way → ℕ
+onward lightest_first = kind.heavier
+onward heaviest_first = kind.lighter
 
-pub way_link : {end link : ℕ} → Way end link → link < kind.client_words
-way_link lightest_first = lit< tt
-way_link heaviest_first = lit< tt
+-- what stands lightest first, read that way
+abbrev pub along : {A : Type 0} → Way → List A → List A
+along lightest_first xs = xs
+along heaviest_first xs = reverse xs
 
--- of a client's own requests: the client word that holds the end
-pub data End : ℕ → Type 0 where
-  oldest_end : End kind.oldest
-  newest_end : End kind.newest
+-- the listing: `lightest` or `heaviest`
+abbrev pub listing_by : Way → ℕ → Waiting → List ℕ
+listing_by w k s = pairs s.window (take (given k s) (along w s.order))
 
-pub own_end_lem : {end : ℕ} → own_end end ≡ true → End end
-own_end_lem {end} o =
-    ⊎_elim (λ e. rw e oldest_end) (⊎_elim (λ e. rw e newest_end) (λ n. absurd n)) ((has_decides end (kind.oldest ∷ kind.newest ∷ [])).0 o)
+-- the ends of a client's own requests
+pub data End : Type 0 where
+  oldest_end : End
+  newest_end : End
 
-pub end_word : {end : ℕ} → End end → end < kind.client_words
-end_word oldest_end = lit< tt
-end_word newest_end = lit< tt
+-- the client word that holds the row
+abbrev pub end_at : End → ℕ
+end_at oldest_end = kind.oldest
+end_at newest_end = kind.newest
+
+-- the first of a list, or the last
+abbrev pub end_of : End → List ℕ → ℕ
+end_of oldest_end = head_or 0
+end_of newest_end = last_or 0
+
+-- the ticket there
+abbrev pub ticket_at : End → Waiting → ℕ → ℕ
+ticket_at oldest_end = oldest_ticket
+ticket_at newest_end = newest_ticket

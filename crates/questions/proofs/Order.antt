@@ -5,7 +5,6 @@ use mathlib.Mathlib.Data.List.Basic.{map-reverse_aux}
 use Prim.Native.Nat.{ℕ, zero, suc, ◌≤◌, ◌<◌}
 use native.Mathlib.Nat.{not-suc-le-zero}
 use native.Mathlib.Omega.{arith}
-use lib.Dec.{eqb}
 use lib.ListN.{length, get_or, take, length-reverse}
 use Rattle.table.specs.Kind as kind
 use Rattle.table.specs.Regions.{client_word}
@@ -15,15 +14,13 @@ use Rattle.rules.specs.History.{Request, count, pairs}
 use Rattle.rules.specs.Picture.{Client, client_row, client_id, client_rows, plain}
 use Rattle.rules.specs.Sound.{picture}
 use Rattle.rules.specs.Ready.{Ready}
-use Rattle.rules.proofs.Choose.{either_way, side_by_side}
 use Rattle.rules.proofs.Rows.{all_reverse, all_take}
 use Rattle.rules.proofs.Put.{put_there, all_puts, take_all}
 use Rattle.rules.proofs.Right.{clients_distinct}
 use Rattle.rules.proofs.Plain.{clients_plain}
 use Rattle.rules.proofs.Ready.{ready_right, ready_holds, ready_ordered}
-use Rattle.questions.specs.Ends.{from_end}
 use Rattle.questions.specs.Walk.{rows_from, pairs_at, clients_from, pairs_from}
-use Rattle.questions.proofs.Ends.{Way, lightest_first, heaviest_first}
+use Rattle.questions.proofs.Ends.{Way, lightest_first, heaviest_first, start, onward, along}
 use Rattle.questions.proofs.Kept.{client_low}
 
 -- rows linked both ways, read from their other end: ys are those that were passed
@@ -44,12 +41,13 @@ map_take f zero xs = refl
 map_take f (suc k) [] = refl
 map_take f (suc k) (x ∷ xs) = ap (λ (l : List ℕ). f x ∷ l) (map_take f k xs)
 
-taken : {A : Type 0} (f : A → ℕ) (end k : ℕ) (xs : List A) → map f (take k (from_end end xs)) ≡ take k (from_end end (map f xs))
-taken f end k xs =
-    map_take f k (from_end end xs) ∙ ap (take k) (side_by_side (map f) (eqb end kind.lightest_at) refl (map-reverse_aux f xs []))
+taken : {A : Type 0} (f : A → ℕ) (w : Way) (k : ℕ) (xs : List A) → map f (take k (along w xs)) ≡ take k (along w (map f xs))
+taken f lightest_first k xs = map_take f k xs
+taken f heaviest_first k xs = map_take f k (reverse xs) ∙ ap (take k) (map-reverse_aux f xs [])
 
-all_taken : {A : Type 0} (F : A → Type 0) (end k : ℕ) (xs : List A) → All F xs → All F (take k (from_end end xs))
-all_taken F end k xs a = all_take F k (from_end end xs) (either_way (All F) (eqb end kind.lightest_at) a (all_reverse F xs [] a tt))
+all_taken : {A : Type 0} (F : A → Type 0) (w : Way) (k : ℕ) (xs : List A) → All F xs → All F (take k (along w xs))
+all_taken F lightest_first k xs a = all_take F k xs a
+all_taken F heaviest_first k xs a = all_take F k (reverse xs) (all_reverse F xs [] a tt)
 
 -- the words show a client, w being the waiting requests
 record Shown (q : ℕ) (t : List ℕ) (w : List Request) (c : Client) : Type 0 where
@@ -83,17 +81,17 @@ module _ {q : ℕ} {t : List ℕ} (y : Ready q t) where
 
   -- k of the clients
   module _ (k : ℕ) (few : k ≤ length (client_rows (picture t))) where
-    led_from : {end link : ℕ} → Way end link → clients_from q t link k (get_or t end 0) ≡ map client_row (take k (from_end end (picture t).clients))
-    led_from lightest_first = led _ _ _ _ (client_rows (picture t)) _ _ k order_run few ∙ sym (taken client_row kind.lightest_at k (picture t).clients)
+    led_from : (w : Way) → clients_from q t (onward w) k (get_or t (start w) 0) ≡ map client_row (take k (along w (picture t).clients))
+    led_from lightest_first = led _ _ _ _ (client_rows (picture t)) _ _ k order_run few ∙ sym (taken client_row lightest_first k (picture t).clients)
     led_from heaviest_first =
         led _ _ _ _ (reverse (client_rows (picture t))) _ _ k (turned _ _ _ _ (client_rows (picture t)) [] _ _ _ _ order_run (refl, refl)) (rw length-reverse few)
-        ∙ sym (taken client_row kind.heaviest_at k (picture t).clients)
+        ∙ sym (taken client_row heaviest_first k (picture t).clients)
 
-    pub from_low : {end link : ℕ} → Way end link → Below q (clients_from q t link k (get_or t end 0))
-    from_low {end} w = rw (led_from w) (shown_low q t _ (take k (from_end end (picture t).clients)) (all_taken _ end k (picture t).clients all_shown))
+    pub from_low : (w : Way) → Below q (clients_from q t (onward w) k (get_or t (start w) 0))
+    from_low w = rw (led_from w) (shown_low q t _ (take k (along w (picture t).clients)) (all_taken _ w k (picture t).clients all_shown))
 
-    pub from_pairs : {end link : ℕ} → Way end link → pairs_from q t link k (get_or t end 0) ≡ pairs (plain (picture t)).window (take k (from_end end (plain (picture t)).order))
-    from_pairs {end} w =
+    pub from_pairs : (w : Way) → pairs_from q t (onward w) k (get_or t (start w) 0) ≡ pairs (plain (picture t)).window (take k (along w (plain (picture t)).order))
+    from_pairs w =
         ap (pairs_at (client_word t q)) (led_from w)
-        ∙ shown_pairs q t _ (take k (from_end end (picture t).clients)) (all_taken _ end k (picture t).clients all_shown)
-        ∙ ap (pairs (plain (picture t)).window) (taken client_id end k (picture t).clients)
+        ∙ shown_pairs q t _ (take k (along w (picture t).clients)) (all_taken _ w k (picture t).clients all_shown)
+        ∙ ap (pairs (plain (picture t)).window) (taken client_id w k (picture t).clients)

@@ -8,7 +8,6 @@ use native.Mathlib.Nat.{not-suc-le-zero}
 use lib.Dec.{eqb, eqb-suc-zero}
 use lib.ListN.{length}
 use borrow.Author.Tests.{ne_eqb}
-use Rattle.table.specs.Kind as kind
 use Rattle.rules.specs.Rows.{head_or, last_or, In, All, Distinct}
 use Rattle.rules.specs.History as history
 use Rattle.rules.specs.History.{Request, Waiting}
@@ -17,8 +16,7 @@ use Rattle.rules.proofs.Choose.{side_by_side}
 use Rattle.rules.proofs.Rows.{last_in}
 use Rattle.rules.proofs.Look.{id_in_lem}
 use Rattle.rules.proofs.Plain.{id_test}
-use Rattle.questions.specs.Ends.{ticket_at}
-use Rattle.questions.proofs.Ends.{End, oldest_end, newest_end}
+use Rattle.questions.proofs.Ends.{End, oldest_end, newest_end, end_of, ticket_at}
 
 -- the tickets of client i's requests, oldest first: as many as its count, and its oldest and newest at the ends
 
@@ -49,12 +47,9 @@ newest_ticket_lem i (r ∷ w) = rw (count_tickets i w) (go (eqb r.id i) (tickets
     go true (x ∷ xs) e = rw (eqb-suc-zero (length xs)) e
     go false xs e = e
 
--- an end of a list: the first, or the last
+-- an end of a list
 
-abbrev pub end_of : ℕ → List ℕ → ℕ
-end_of end xs = cond (eqb end kind.oldest) (head_or 0 xs) (last_or 0 xs)
-
-pub end_in : {end : ℕ} → End end → (xs : List ℕ) → 1 ≤ length xs → In (end_of end xs) xs
+pub end_in : (e : End) (xs : List ℕ) → 1 ≤ length xs → In (end_of e xs) xs
 end_in e [] h = absurd (not-suc-le-zero h)
 end_in oldest_end (x ∷ xs) h = inl refl
 end_in newest_end (x ∷ xs) h = last_in x xs
@@ -63,12 +58,12 @@ last_map : (f : ℕ → ℕ) (x : ℕ) (xs : List ℕ) → f (last_or x xs) ≡ 
 last_map f x [] = refl
 last_map f x (y ∷ xs) = last_map f y xs
 
-pub end_map : {end : ℕ} → End end → (f : ℕ → ℕ) (xs : List ℕ) → 1 ≤ length xs → f (end_of end xs) ≡ end_of end (map f xs)
+pub end_map : (e : End) (f : ℕ → ℕ) (xs : List ℕ) → 1 ≤ length xs → f (end_of e xs) ≡ end_of e (map f xs)
 end_map e f [] h = absurd (not-suc-le-zero h)
 end_map oldest_end f (x ∷ xs) h = refl
 end_map newest_end f (x ∷ xs) h = last_map f x xs
 
-pub end_ticket : {end : ℕ} → End end → (s : Waiting) (i : ℕ) → ticket_at end s i ≡ end_of end (tickets i s.window)
+pub end_ticket : (e : End) (s : Waiting) (i : ℕ) → ticket_at e s i ≡ end_of e (tickets i s.window)
 end_ticket oldest_end s i = oldest_ticket_lem i s.window
 end_ticket newest_end s i = newest_ticket_lem i s.window
 

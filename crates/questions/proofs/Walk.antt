@@ -2,7 +2,7 @@
 use mathlib.Core.List.{List, ◌++◌}
 use mathlib.Core.Path.{◌≡◌, refl, ap, ◌∙◌}
 use Prim.Native.Nat.{ℕ, zero, suc, ◌+◌, ◌*◌, ◌-◌, ◌≤◌, ◌<◌}
-use native.Mathlib.Nat.{sub-zero, mul-zero, zero-add}
+use native.Mathlib.Nat.{zero-add}
 use native.Mathlib.Numerals.{add-one}
 use native.Mathlib.Omega.{arith}
 use lib.ListN.{length, set, drop, length-set}
@@ -19,9 +19,6 @@ pub record Walked (q : ℕ) (t : List ℕ) (link n first : ℕ) (before after : 
   pub same : length after ≡ length before
   pub stores : sets after (2 * i) (pairs_from q t link (n - i) r) ≡ sets before 0 (pairs_from q t link n first)
 
-pub walk_first : {q : ℕ} {t : List ℕ} {link n first : ℕ} {out : List ℕ} → Below q (clients_from q t link n first) → Walked q t link n first out out first 0
-walk_first {n = n} b = record { few = omega arith; low = rw sub-zero b; same = refl; stores = rw (sub-zero, mul-zero) refl }
-
 length_pairs : (q : ℕ) (t : List ℕ) (link n r : ℕ) → length (pairs_from q t link n r) ≡ 2 * n
 length_pairs q t link zero r = refl
 length_pairs q t link (suc n) r = omega (arith, length_pairs q t link n (client_word t q r link))
@@ -29,9 +26,6 @@ length_pairs q t link (suc n) r = omega (arith, length_pairs q t link n (client_
 module _ {q : ℕ} {t : List ℕ} {link n first : ℕ} {before after : List ℕ} {r i : ℕ} (w : Walked q t link n first before after r i) where
   one_less : i < n → n - i ≡ suc (n - (i + 1))
   one_less h = omega arith
-
-  pub walk_low : i < n → r < q
-  walk_low h = (rw (one_less h) at w.low).0
 
   pub walk_next : {a b e : ℕ} → i < n → a ≡ client_word t q r kind.id → b ≡ client_word t q r kind.count → e ≡ client_word t q r link
       → Walked q t link n first before (set (set after (2 * i) a) (2 * i + 1) b) e (i + 1)

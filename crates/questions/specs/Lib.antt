@@ -1,4 +1,4 @@
--- Where the questions start, what they read, and the output after a listing.
-pub mod Ends
+-- The row of a client, what a listing reads, and the output after it.
+pub mod Row
 pub mod Walk
 pub mod Output

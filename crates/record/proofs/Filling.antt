@@ -11,11 +11,15 @@ use lib.Dec.{eqb}
 use lib.ListN.{length, get_or, take, drop, length-drop}
 use lib.Seq.{take-add, length-take-le, get_or-drop, drop-drop}
 use borrow.Author.Tests.{ne_eqb, lt-ltb, le-ltb}
+use Rattle.std.specs.Prelude.{Result, Ok, Err}
 use Rattle.rules.specs.Numbers as number
 use Rattle.rules.specs.Run.{command_bytes, four_bytes, kind_of, id_in, ticket_in, known}
 use Rattle.rules.proofs.Choose.{either_way}
-use Rattle.command.specs.Bytes.{command_at}
-use Rattle.command.specs.declared.Command.{Command}
+use Rattle.answers.specs.declared.Refusal.{Refusal}
+use Rattle.answers.specs.declared.Stop.{Stop}
+use Rattle.answers.specs.declared.Stop.TheVariants as stops
+use Rattle.answers.specs.Numbers.{refusal_number, done_number, stop_number}
+use Rattle.answers.proofs.Numbered.{some_number}
 use Rattle.recording.specs.Kind as kind
 use Rattle.recording.specs.Block.{four_of, nine, sealed}
 use Rattle.recording.proofs.Torn.{four_back}
@@ -74,61 +78,63 @@ has_room n k i t e =
     by_cases (dec_lt n kind.most_commands) (λ h. h)
     (λ h. absurd (either_way (λ (r : ℕ). r ≡ 0 → ⊥) (known k i t) (λ z. omega arith) (λ z. omega arith) (rw (le-ltb n kind.most_commands (omega arith)) at e)))
 
--- the recorder is asked for the command c behind them, answers r and leaves b'
-module _ (n : ℕ) (s : List ℕ) {b : List ℕ} {k : ℕ} (f : Filling n s b k) (inside : command_bytes * k + command_bytes ≤ length s) (short : length s ≤ kind.used_at)
-    {c : Command} (said : c ≡ command_at (drop (command_bytes * k) s))
-    {r : ℕ} (told : r ≡ record_number (kind.commands * n + k) c.kind c.id c.ticket)
-    {b' : List ℕ} (left : b' ≡ record_block (kind.commands * n + k) c.kind c.id c.ticket b) where
+-- the recorder is asked for the bytes behind them, answers r and leaves b'
+module _ (n : ℕ) (s : List ℕ) {b : List ℕ} {k : ℕ} (f : Filling n s b k) (inside : command_bytes * k + command_bytes ≤ length s) (short : length s ≤ kind.used_at) where
   abbrev rest : List ℕ
   rest = drop (command_bytes * k) s
 
   rest_long : command_bytes ≤ length rest
   rest_long = simp length-drop (omega arith)
 
-  is_taken : r ≡ 0 → b' ≡ one_more (kind.commands * n + k) c.kind c.id c.ticket b
-  unfolding record_block
-  is_taken e = left ∙ rw (← told, e)
+  module _ (r : Result (Unit {0}) Refusal) (told : done_number r ≡ record_number (kind.commands * n + k) (kind_of rest) (id_in rest) (ticket_in rest))
+      {b' : List ℕ} (left : b' ≡ record_block (kind.commands * n + k) (kind_of rest) (id_in rest) (ticket_in rest) b) where
+    is_taken : done_number r ≡ 0 → b' ≡ one_more (kind.commands * n + k) (kind_of rest) (id_in rest) (ticket_in rest) b
+    unfolding record_block
+    is_taken e = left ∙ rw (← told, e)
 
-  is_kept : (r ≡ 0 → ⊥) → b' ≡ b
-  unfolding record_block
-  is_kept e = left ∙ rw (← told, ne_eqb r 0 e)
+    is_kept : (done_number r ≡ 0 → ⊥) → b' ≡ b
+    unfolding record_block
+    is_kept e = left ∙ rw (← told, ne_eqb (done_number r) 0 e)
 
-  pub one_filled : Bytes s → r ≡ 0 → Filling n s b' (k + 1)
-  one_filled small e =
-      let place : (kind.commands * n + k) % kind.commands ≡ k = omega arith in
-      let block : (kind.commands * n + k) / kind.commands ≡ n = omega arith in
-      let on : command_bytes * k + command_bytes ≡ command_bytes * (k + 1) = omega arith in
-      let put : nine c.kind c.id c.ticket ≡ take command_bytes rest =
-      ap (λ (c : Command). nine c.kind c.id c.ticket) said ∙ nine_kept rest (bytes_drop (command_bytes * k) s small) rest_long in
-      let front : take (command_bytes * k) b ++ nine c.kind c.id c.ticket ≡ take (command_bytes * (k + 1)) s =
-      ap₂ ◌++◌ (begins k f (omega arith)) put ∙ sym (take-add (command_bytes * k) command_bytes s) ∙ ap (λ (m : ℕ). take m s) on in
-      let is : b' ≡ sealed (take (command_bytes * (k + 1)) s) (k + 1) n =
-      is_taken e
-      ∙ (λ i. sealed (take (command_bytes * place i) b ++ nine c.kind c.id c.ticket) (suc (place i)) (block i))
-      ∙ (λ i. sealed (front i) (sym (add-one k) i) n) in
-      record {
-        room = omega (arith, has_room _ _ _ _ (sym told ∙ e));
-        long = ap length is ∙ sealed_length (take (command_bytes * (k + 1)) s) (k + 1) n (rw (length-take-le (command_bytes * (k + 1)) s (omega arith)) (omega arith));
-        bytes = λ some. is;
-      }
+    taken : Bytes s → done_number r ≡ 0 → Filling n s b' (k + 1)
+    taken small e =
+        let place : (kind.commands * n + k) % kind.commands ≡ k = omega arith in
+        let block : (kind.commands * n + k) / kind.commands ≡ n = omega arith in
+        let on : command_bytes * k + command_bytes ≡ command_bytes * (k + 1) = omega arith in
+        let put : nine (kind_of rest) (id_in rest) (ticket_in rest) ≡ take command_bytes rest = nine_kept rest (bytes_drop (command_bytes * k) s small) rest_long in
+        let front : take (command_bytes * k) b ++ nine (kind_of rest) (id_in rest) (ticket_in rest) ≡ take (command_bytes * (k + 1)) s =
+        ap₂ ◌++◌ (begins k f (omega arith)) put ∙ sym (take-add (command_bytes * k) command_bytes s) ∙ ap (λ (m : ℕ). take m s) on in
+        let is : b' ≡ sealed (take (command_bytes * (k + 1)) s) (k + 1) n =
+        is_taken e
+        ∙ (λ i. sealed (take (command_bytes * place i) b ++ nine (kind_of rest) (id_in rest) (ticket_in rest)) (suc (place i)) (block i))
+        ∙ (λ i. sealed (front i) (sym (add-one k) i) n) in
+        record {
+          room = omega (arith, has_room _ _ _ _ (sym told ∙ e));
+          long = ap length is ∙ sealed_length (take (command_bytes * (k + 1)) s) (k + 1) n (rw (length-take-le (command_bytes * (k + 1)) s (omega arith)) (omega arith));
+          bytes = λ some. is;
+        }
 
-  pub refused_there : (r ≡ 0 → ⊥) → Fills n s (record { commands = k; refused = r }) b'
-  refused_there e =
-      record {
-        few = omega arith;
-        room = f.room;
-        long = sym (ap length (is_kept e) ∙ f.long);
-        bytes = λ some. is_kept e ∙ f.bytes some;
-        refused = told
-            ∙ ap (λ (c : Command). record_number (kind.commands * n + k) c.kind c.id c.ticket) said
-            ∙ rw (ne_eqb (length rest) 0 (λ z. omega (arith, rest_long)), le-ltb (length rest) command_bytes rest_long);
-        all = λ z. absurd (e z);
-      }
+    pub one_filled : Bytes s → {u : Unit {0}} → r ≡ Ok u → Filling n s b' (k + 1)
+    one_filled small e = taken small (ap done_number e)
+
+    pub refused_there : {x : Refusal} → r ≡ Err x → Fills n s (record { commands = k; stop = stops.Block x }) b'
+    refused_there {x} e =
+        let said : done_number r ≡ refusal_number x = ap done_number e in
+        let refused : refusal_number x ≡ 0 → ⊥ = some_number x in
+        let kept : b' ≡ b = is_kept (λ z. refused (sym said ∙ z)) in
+        record {
+          few = omega arith;
+          room = f.room;
+          long = sym (ap length kept ∙ f.long);
+          bytes = λ some. kept ∙ f.bytes some;
+          refused = sym said ∙ told ∙ rw (ne_eqb (length rest) 0 (λ z. omega (arith, rest_long)), le-ltb (length rest) command_bytes rest_long);
+          all = λ z. absurd (refused z);
+        }
 
 -- no whole command is left
-pub all_filled : (n : ℕ) (s : List ℕ) {b : List ℕ} {k : ℕ} → Filling n s b k → k ≡ length s / command_bytes → length s ≤ kind.used_at
-    → Fills n s (record { commands = length s / command_bytes; refused = cond (eqb (length s % command_bytes) 0) number.ended number.cut }) b
-all_filled n s f e short =
+pub all_filled : (n : ℕ) (s : List ℕ) {b : List ℕ} {k : ℕ} {o : Stop} → Filling n s b k → k ≡ length s / command_bytes → length s ≤ kind.used_at
+    → stop_number o ≡ cond (eqb (length s % command_bytes) 0) number.ended number.cut → Fills n s (record { commands = length s / command_bytes; stop = o }) b
+all_filled n s f e short told =
     let k : ℕ = length s / command_bytes in
     let all : Filling n s _ k = rw e at f in
     let left : length (drop (command_bytes * k) s) ≡ length s % command_bytes = simp length-drop (omega arith) in
@@ -137,6 +143,6 @@ all_filled n s f e short =
       room = all.room;
       long = sym all.long;
       bytes = all.bytes;
-      refused = rw (left, lt-ltb (length s % command_bytes) command_bytes (omega arith));
-      all = λ z. by_cases (ℕ_discrete (length s % command_bytes) 0) (λ y. omega arith) (λ y. absurd (omega (arith, rw (ne_eqb (length s % command_bytes) 0 y) at z)));
+      refused = told ∙ rw (left, lt-ltb (length s % command_bytes) command_bytes (omega arith));
+      all = λ z. by_cases (ℕ_discrete (length s % command_bytes) 0) (λ y. omega arith) (λ y. absurd (omega (arith, rw (ne_eqb (length s % command_bytes) 0 y) at (sym told ∙ z))));
     }

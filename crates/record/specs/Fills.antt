@@ -2,6 +2,7 @@
 use Rattle.std.specs.Prelude.{cond, List, ◌≡◌, ℕ, ◌+◌, ◌*◌, ◌≤◌, ◌<◌, eqb, ltb, length, take, drop}
 use Rattle.rules.specs.Numbers as number
 use Rattle.rules.specs.Run.{command_bytes, kind_of, id_in, ticket_in}
+use Rattle.answers.specs.Numbers.{stop_number}
 use Rattle.recording.specs.Kind as kind
 use Rattle.recording.specs.Block.{sealed}
 use Rattle.recorder.specs.Record.{record_number}
@@ -20,5 +21,5 @@ pub record Fills (n : ℕ) (s : List ℕ) (r : Filled) (b : List ℕ) : Type 0 w
   -- its commands are the bytes as they came
   pub bytes : 0 < r.commands → b ≡ sealed (take (command_bytes * r.commands) s) r.commands n
   -- what follows them is refused, and where nothing is, nothing follows
-  pub refused : r.refused ≡ refused_at (kind.commands * n + r.commands) (drop (command_bytes * r.commands) s)
-  pub all : r.refused ≡ 0 → length s ≡ command_bytes * r.commands
+  pub refused : stop_number r.stop ≡ refused_at (kind.commands * n + r.commands) (drop (command_bytes * r.commands) s)
+  pub all : stop_number r.stop ≡ 0 → length s ≡ command_bytes * r.commands

@@ -5,28 +5,29 @@
 ghost use Rattle.std.specs.Prelude.{true, cond, ◌≡◌, ◌%◌, ◌≤◌, ◌<◌, eqb, length};
 ghost use Rattle.rules.specs.Numbers as number;
 ghost use Rattle.rules.specs.Run.{command_bytes};
+ghost use Rattle.answers.specs.Numbers.{stop_number};
 ghost use Rattle.recording.specs.Kind as kind;
 ghost use Rattle.record.specs.Fills.{Fills};
 
-use answers::Report;
+use answers::Stop;
 use command::Command;
 use recording::Block;
 
-// What came of a block's commands: how many were recorded, and why what follows them is refused, 0 where nothing is.
+// What came of a block's commands: how many were recorded, and where the rest of them stops.
 #[derive(Clone, Copy)]
 struct Filled {
     commands: u64,
-    refused: u32,
+    stop: Stop,
 }
 
 // Whether bytes are left that are no whole command.
-fn left(bytes: usize) -> u32
-    ensures { result ≡ cond (eqb (bytes % command_bytes) 0) number.ended number.cut }
+fn left(bytes: usize) -> Stop
+    ensures { stop_number result ≡ cond (eqb (bytes % command_bytes) 0) number.ended number.cut }
 {
     if bytes % Command::BYTES == 0 {
-        Report::ENDED
+        Stop::Ended
     } else {
-        Report::CUT
+        Stop::Cut
     }
 }
 
@@ -37,25 +38,26 @@ fn fill(block: &mut [u8; Block::BYTES], number: u64, s: &[u8]) -> Filled
 {
     let before = Block::COMMANDS as u64 * number;
     let whole = s.len() / Command::BYTES;
-    let mut k = 0;
-    while k < whole {
-        let c = command::command_at(s, Command::BYTES * k);
-        let refused = recorder::record(block, before + k as u64, c.kind as u32, c.id, c.ticket);
-        if refused != 0 {
+    for k in 0..whole {
+        let at = Command::BYTES * k;
+        let kind = u32::from(s[at]);
+        let id = command::number(s, at + 1);
+        let ticket = command::number(s, at + 5);
+        if let Err(refusal) = recorder::record(block, before + k as u64, kind, id, ticket) {
             return Filled {
                 commands: k as u64,
-                refused,
+                stop: Stop::Block(refusal),
             };
         }
-        k += 1;
     }
     Filled {
         commands: whole as u64,
-        refused: left(s.len()),
+        stop: left(s.len()),
     }
 }
 
-fn refuse(rt: &impl Eprint, refused: u32, command: u64) {
+fn refuse(rt: &impl Eprint, stop: Stop, command: u64) {
+    let refused = u32::from(stop);
     let _ = eprintln!(rt; "refused {refused} command {command}");
 }
 
@@ -71,10 +73,10 @@ fn block(rt: &(impl Input + Print + Eprint), number: u64) -> bool
     if filled.commands != 0 && !report::output(rt, &block) {
         return false;
     }
-    if filled.refused != 0 {
+    if filled.stop != Stop::Ended {
         refuse(
             rt,
-            filled.refused,
+            filled.stop,
             Block::COMMANDS as u64 * number + filled.commands,
         );
         return false;

@@ -1,5 +1,5 @@
 -- The file of a host that records an evening is the recording of the commands that the recorder took.
-use mathlib.Core.Bool.{Bool, true, false, cond, ◌&&◌, ◌||◌, false≢true}
+use mathlib.Core.Bool.{Bool, true, false, cond, false≢true}
 use mathlib.Core.List.{List, [], ◌∷◌, ◌++◌, append-nil}
 use mathlib.Core.Path.{◌≡◌, refl, sym, ap, ◌∙◌, subst}
 use Prim.Native.Nat.{ℕ, suc, ◌+◌, ◌/◌, ◌%◌, ◌≤◌, ◌<◌}
@@ -7,34 +7,21 @@ use native.Mathlib.Omega.{arith}
 use lib.Dec.{eqb, ltb}
 use lib.ListN.{length, length-append}
 use lib.Seq.{append_snoc}
-use borrow.Author.Tests.{eqb-true, ltb-true}
+use borrow.Author.Tests.{ltb-true}
 use Rattle.rules.specs.Numbers as number
-use Rattle.rules.specs.History.{request}
-use Rattle.rules.specs.Commands.{Command, arriving, sliding, serving}
+use Rattle.rules.specs.Commands.{Command}
 use Rattle.rules.specs.Run.{known, command_of}
 use Rattle.rules.proofs.Choose.{either_way}
 use Rattle.recording.specs.Kind as kind
-use Rattle.recording.specs.Block.{nine, bytes_of, Fits, AllFit, sealed, blocks_from, recording}
+use Rattle.recording.specs.Block.{Fits, AllFit, sealed, blocks_from, recording}
 use Rattle.recording.proofs.Written.{last_block, begun, sealed_last, stored_last}
+use Rattle.recorder.proofs.Calls.{known_bytes}
 use Rattle.recorder.specs.Record.{record_number, record_block, one_more}
 use Rattle.recorder.specs.Evening.{Asked, Fit, Evening, nothing, stored_at, place_of, number_of, record_all, taken}
 
 -- the command of a call
 abbrev command_in : Asked → Command
 command_in a = command_of a.kind a.id a.ticket
-
--- numbers that are a command are its bytes
-known_bytes : (k i t : ℕ) → known k i t ≡ true → bytes_of (command_of k i t) ≡ nine k i t
-known_bytes k i t = go (eqb k 1) (eqb k 2) (eqb k 3) (eqb i 0) (eqb t 0) refl refl refl refl refl
-  where
-    go : (a b c d f : Bool) → eqb k 1 ≡ a → eqb k 2 ≡ b → eqb k 3 ≡ c → eqb i 0 ≡ d → eqb t 0 ≡ f → (a || (b || (c && (d && f)))) ≡ true
-        → bytes_of (cond a (arriving (request i t)) (cond b (sliding (request i t)) serving)) ≡ nine k i t
-    go true b c d f one two three none blank e = ap (λ (j : ℕ). nine j i t) (sym (eqb-true k 1 one))
-    go false true c d f one two three none blank e = ap (λ (j : ℕ). nine j i t) (sym (eqb-true k 2 two))
-    go false false true true true one two three none blank e = sym (λ j. nine (eqb-true k 3 three j) (eqb-true i 0 none j) (eqb-true t 0 blank j))
-    go false false true true false one two three none blank e = absurd (false≢true e)
-    go false false true false f one two three none blank e = absurd (false≢true e)
-    go false false false d f one two three none blank e = absurd (false≢true e)
 
 -- a call that is not refused has a command, and there is room for it
 not_refused : (n : ℕ) (a : Asked) → eqb (number_of n a) 0 ≡ true → (known a.kind a.id a.ticket ≡ true) × (n < kind.most_commands)

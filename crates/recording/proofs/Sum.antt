@@ -5,8 +5,8 @@ use Prim.Native.Nat.{ℕ, suc, ◌+◌, ◌*◌, ◌-◌, ◌/◌, ◌%◌, ◌�
 use native.Mathlib.Omega.{arith}
 use native.Mathlib.Numerals.{add-one}
 use native.Mathlib.Nat.{zero-add, mul-le-mul_left}
-use lib.ListN.{length, get_or, take, drop, length-drop}
-use lib.Seq.{take-suc, take-add, length-take-le, get_or-drop}
+use lib.ListN.{length, get_or, take, drop}
+use lib.Seq.{take-suc, take-add, length-take-le, take-length}
 use Rattle.rules.specs.Rows.{Below}
 use Rattle.recording.specs.Kind as kind
 use Rattle.recording.specs.Block.{weighed, check_of}
@@ -17,29 +17,16 @@ abbrev pub span : ℕ
 span = 256
 
 -- of the first i of a part's bytes: the low and the high bytes of their terms, and the bytes themselves, each summed up
-pub record Summed (b : List ℕ) (from bytes i low high all : ℕ) : Type 0 where
-  pub near : from ≤ span
-  pub few : bytes ≤ span
-  pub long : from + bytes ≤ length b
-  pub inside : i ≤ bytes
-  pub is : low + 256 * high + from * all ≡ weighed from (take i (drop from b))
+pub record Summed (s : List ℕ) (from i low high all : ℕ) : Type 0 where
+  pub inside : i ≤ span
+  pub is : low + 256 * high + from * all ≡ weighed from (take i s)
   pub low_small : low ≤ 255 * i
   pub high_small : high ≤ 255 * i
   pub all_small : all ≤ 255 * i
 
-pub none_summed : {b : List ℕ} {from bytes : ℕ} → from ≤ span → bytes ≤ span → from + bytes ≤ length b → Summed b from bytes 0 0 0 0
+pub none_summed : (s : List ℕ) (from : ℕ) → Summed s from 0 0 0 0
 unfolding weighed
-none_summed n f l =
-    record {
-      near = n;
-      few = f;
-      long = l;
-      inside = omega arith;
-      is = omega arith;
-      low_small = omega arith;
-      high_small = omega arith;
-      all_small = omega arith;
-    }
+none_summed s from = record { inside = omega arith; is = omega arith; low_small = omega arith; high_small = omega arith; all_small = omega arith }
 
 -- a term fits into 16 bits
 pub term_small : (i x : ℕ) → i < span → x < 256 → (i + 1) * x ≤ 65280
@@ -57,33 +44,28 @@ one_more_lem p s i {x} h e =
     let at : length (take i s) ≡ i = length-take-le i s (omega (arith, h)) in
     ap (weighed p) more ∙ weighed_append p (take i s) (x ∷ []) ∙ ap (λ (n : ℕ). weighed p (take i s) + n) (ap (λ (n : ℕ). weighed (p + n) (x ∷ [])) at ∙ one_weighed (p + i) x)
 
-pub one_summed : {b : List ℕ} {from bytes i low high all x : ℕ} → Summed b from bytes i low high all → i < bytes → x ≡ get_or b (from + i) 0 → x < 256
-    → Summed b from bytes (i + 1) (low + (i + 1) * x % 256) (high + (i + 1) * x / 256) (all + x)
-one_summed {b} {from} {bytes} {i} {low} {high} {all} {x} s h e k =
-    let more = one_more_lem from (drop from b) i (omega (arith, s.long, h, length-drop from b)) (e ∙ sym (get_or-drop from b i 0)) in
-    let small = term_small i x (omega (arith, s.few, h)) k in
+pub one_summed : {s : List ℕ} {from i low high all x : ℕ} → Summed s from i low high all → length s ≤ span → i < length s → x ≡ get_or s i 0 → x < 256
+    → Summed s from (i + 1) (low + (i + 1) * x % 256) (high + (i + 1) * x / 256) (all + x)
+one_summed {s} {from} {i} {low} {high} {all} {x} so few h e k =
+    let more = one_more_lem from s i h e in
+    let small = term_small i x (omega (arith, few, h)) k in
     record {
-      near = s.near;
-      few = s.few;
-      long = s.long;
-      inside = omega (arith, h);
-      is = omega (arith, s.is, more);
-      low_small = omega (arith, s.low_small);
-      high_small = omega (arith, s.high_small, small);
-      all_small = omega (arith, s.all_small, k);
+      inside = omega (arith, h, few);
+      is = omega (arith, so.is, more);
+      low_small = omega (arith, so.low_small);
+      high_small = omega (arith, so.high_small, small);
+      all_small = omega (arith, so.all_small, k);
     }
 
 -- what the places before the part add is small too
-pub rise_small : {b : List ℕ} {from bytes i low high all : ℕ} → Summed b from bytes i low high all → from * all ≤ 16711680
-rise_small {from = from} {all = all} s =
-    let below : all ≤ 65280 = omega (arith, s.all_small, s.inside, s.few) in
-    omega (arith, mul-le-mul_left from below, s.near)
+pub rise_small : {s : List ℕ} {from i low high all : ℕ} → Summed s from i low high all → from ≤ span → from * all ≤ 16711680
+rise_small {from = from} {all = all} so near =
+    let below : all ≤ 65280 = omega (arith, so.all_small, so.inside) in
+    omega (arith, mul-le-mul_left from below, near)
 
 -- at the end of the part it is that of its bytes
-pub part_summed : {b : List ℕ} {from bytes i low high all : ℕ} → Summed b from bytes i low high all → bytes ≤ i → low + 256 * high + from * all ≡ weighed from (take bytes (drop from b))
-part_summed {b} {from} {bytes} {i} s h =
-    let end : i ≡ bytes = omega (arith, s.inside, h) in
-    s.is ∙ ap (λ (n : ℕ). weighed from (take n (drop from b))) end
+pub part_summed : {s : List ℕ} {from i low high all : ℕ} → Summed s from i low high all → i ≡ length s → low + 256 * high + from * all ≡ weighed from s
+part_summed {s} {from} so end = so.is ∙ ap (λ (n : ℕ). weighed from (take n s)) end ∙ ap (weighed from) (take-length s)
 
 -- bytes that are read are below 256
 pub all_below : (b : List ℕ) → ((i : ℕ) → get_or b i 0 < 256) → Below 256 b

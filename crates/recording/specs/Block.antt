@@ -5,25 +5,14 @@ use Rattle.rules.specs.Numbers as number
 use Rattle.rules.specs.Rows.{All}
 use Rattle.rules.specs.Commands.{Command, arriving, sliding, serving}
 use Rattle.rules.specs.Run.{command_bytes, four_bytes, stop, carried}
+pub use Rattle.command.specs.Bytes.{four_of, nine, bytes_of}
 use Rattle.recording.specs.Kind as kind
 
--- a number in two bytes, in four bytes, lowest first
+-- a number in two bytes, lowest first
 abbrev pub two_of : ℕ → List ℕ
 two_of x = x % 256 ∷ x / 256 % 256 ∷ []
 
-abbrev pub four_of : ℕ → List ℕ
-four_of x = x % 256 ∷ x / 256 % 256 ∷ x / 65536 % 256 ∷ x / 16777216 % 256 ∷ []
-
--- the nine bytes of a kind, an id and a ticket
-abbrev pub nine : ℕ → ℕ → ℕ → List ℕ
-nine k i t = k ∷ four_of i ++ four_of t
-
--- of a command, and of commands
-abbrev pub bytes_of : Command → List ℕ
-bytes_of (arriving r) = nine 1 r.id r.ticket
-bytes_of (sliding r) = nine 2 r.id r.ticket
-bytes_of serving = nine 3 0 0
-
+-- the bytes of commands
 abbrev pub all_bytes : List Command → List ℕ
 all_bytes [] = []
 all_bytes (c ∷ cs) = bytes_of c ++ all_bytes cs

@@ -14,7 +14,8 @@ use Rattle.rules.specs.Verdict.{accepts}
 use Rattle.rules.proofs.Run.{outcomes_length}
 use Rattle.answers.specs.declared.Report.{Report}
 use Rattle.answers.specs.declared.Replay.{Replay}
-use Rattle.answers.specs.declared.Replayed.TheVariants as answer
+use Rattle.std.specs.Prelude.{Ok, Err}
+use Rattle.answers.specs.Offered as offered
 use Rattle.answers.specs.Offered.{refusal_on}
 use Rattle.recording.specs.Kind as kind
 use Rattle.recording.specs.Block.{failing}
@@ -52,7 +53,7 @@ replay_counted : (P : Picture) (first : ℕ) (s : List ℕ) {r : Replay} → r �
 replay_counted P first s e =
     rw e (
       record {
-        stop = replay_stop first s;
+        stop = offered.replay_stop (replay_stop first s);
         outcomes = outcomes (limits_of P) (plain P) (replayed first s);
         totals = refl;
         commands = rw outcomes_length (commands_most first (pieces s));
@@ -61,12 +62,12 @@ replay_counted P first s e =
     )
 
 -- what is answered, and is no refusal, is such a report
-pub answer_counted : (t : List ℕ) (first : ℕ) (s : List ℕ) {r : Replay} → answer.Reported r ≡ replay_answer first s t → Counted r × (kind.block_bytes * r.blocks ≤ length s)
+pub answer_counted : (t : List ℕ) (first : ℕ) (s : List ℕ) {r : Replay} → Ok r ≡ replay_answer first s t → Counted r × (kind.block_bytes * r.blocks ≤ length s)
 answer_counted t first s {r} e = replay_counted (lent t) first s (go (accepts t) e)
   where
-    go : (b : Bool) → answer.Reported r ≡ cond b (answer.Reported (replay_from (lent t) first s)) (answer.Refused (refusal_on t)) → r ≡ replay_from (lent t) first s
+    go : (b : Bool) → Ok r ≡ cond b (Ok (replay_from (lent t) first s)) (Err (refusal_on t)) → r ≡ replay_from (lent t) first s
     go true e = cc
-    go false e = let z : ◌≡◌ {A = ℕ} 0 1 = cc in absurd (omega arith)
+    go false e = absurd cc
 
 module _ {a b : Replay} (x : Counted a) (y : Counted b) where
   -- far below the largest number

@@ -9,15 +9,13 @@ use lib.Seq.{length-take-le}
 use Rattle.table.specs.Kind as kind
 use Rattle.rules.specs.History.{heaviest}
 use Rattle.rules.specs.Verdict.{accepts}
+use Rattle.rules.proofs.Decide.{no_true}
 use Rattle.answers.specs.declared.Replay.{Replay}
-use Rattle.answers.specs.declared.Replayed.TheVariants as reported
+use Rattle.std.specs.Prelude.{Result, Ok, Err}
 use Rattle.answers.specs.declared.Refusal.{Refusal}
-use Rattle.answers.specs.declared.Listing.{Listing}
-use Rattle.answers.specs.declared.Listing.TheVariants as listings
-use Rattle.answers.specs.declared.Listed.TheVariants as answer
 use Rattle.answers.specs.Numbers.{replayed_numbers}
 use Rattle.answers.specs.Engine.{listing}
-use Rattle.answers.specs.Offered.{refusal_on, listed_of}
+use Rattle.answers.specs.Offered.{refusal_on}
 use Rattle.limiter.specs.Lent.{waiting_in}
 use Rattle.limiter.specs.Questions.{listed_answer}
 use Rattle.page.specs.Put.{Room, Put}
@@ -41,22 +39,22 @@ lines_room ps h room = record { fits = omega (arith, lines_most ps h) }
 
 -- what the listing of all clients of t answers, into ps
 module _ (t ps : List ℕ) (long : length ps ≡ 2 * kind.largest) where
-  abbrev all : Listing
+  abbrev all : Result ℕ Refusal
   all = listing kind.largest (length ps) (waiting_in t)
 
   room : 2 * kind.largest ≤ length ps
   room = omega arith
 
   -- a refusal is answered: the table is refused, for there is room
-  module _ {x : Refusal} (e : answer.Refused x ≡ listed_answer kind.largest (length ps) t) where
+  module _ {x : Refusal} (e : Err x ≡ listed_answer kind.largest (length ps) t) where
     nobody : waiting_lines t ≡ []
     nobody = go (accepts t) e
       where
-        never : (l : Listing) → l ≡ all → answer.Refused x ≡ listed_of l → ⊥
-        never (listings.Pairs m) y e = let z : ◌≡◌ {A = ℕ} 0 1 = cc in omega arith
-        never listings.NoRoom y e = printed.never_refused kind.largest (waiting_in t) ps room y
+        never : (l : Result ℕ Refusal) → l ≡ all → Err x ≡ l → ⊥
+        never (Ok m) y e = cc
+        never (Err z) y e = no_true (printed.never_refused kind.largest (waiting_in t) ps room y)
 
-        go : (b : Bool) → answer.Refused x ≡ cond b (listed_of all) (answer.Refused (refusal_on t)) → cond b (client_lines (heaviest kind.largest (waiting_in t))) [] ≡ []
+        go : (b : Bool) → Err x ≡ cond b all (Err (refusal_on t)) → cond b (client_lines (heaviest kind.largest (waiting_in t))) [] ≡ []
         go true e = absurd (never all refl e)
         go false e = refl
 
@@ -66,7 +64,7 @@ module _ (t ps : List ℕ) (long : length ps ≡ 2 * kind.largest) where
 -- the line of a report takes at most 256 bytes
 module _ (r : Replay) where
   abbrev numbers : List ℕ
-  numbers = replayed_numbers (reported.Reported r)
+  numbers = replayed_numbers (Ok r)
 
   pub line_room : {out : List ℕ} → Words numbers → 256 ≤ length out → Room out 0 (replay_line r)
   line_room w h = form_room replay_form numbers w (omega arith)

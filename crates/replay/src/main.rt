@@ -10,7 +10,7 @@ ghost use Rattle.printed.specs.Printed.{client_lines};
 ghost use Rattle.replay.specs.Counted.{Counted};
 ghost use Rattle.replay.specs.Shown.{replay_line, waiting_lines, shown};
 
-use answers::{Listed, Replay, Replayed, Report};
+use answers::{Refusal, Replay, Stop};
 use recording::Block;
 use std::rt::Env;
 use table::LinkedTable;
@@ -28,30 +28,15 @@ const PIECE: u64 = 64;
 // The longest argument that Linux passes has a byte less.
 const ARGUMENT: usize = 131072;
 
-// An argument: a decimal number, or something else.
-#[derive(Clone, Copy)]
-enum Given {
-    Number(u64),
-    Other,
-}
-
-fn argument(rt: &impl Env, i: usize) -> Given {
+// Argument i, where it is a decimal number.
+fn argument(rt: &impl Env, i: usize) -> Option<u64> {
     let mut text = [0u8; ARGUMENT];
     let n = report::argument(rt, i, &mut text);
-    if report::is_decimal(&text[..n]) {
-        Given::Number(report::number(&text[..n]))
-    } else {
-        Given::Other
-    }
+    let digits = &text[..n];
+    report::is_decimal(digits).then(|| report::number(digits))
 }
 
-fn least(a: u64, b: u64) -> u64
-    ensures { result ≡ min a b }
-{
-    if a < b { a } else { b }
-}
-
-fn nothing(stop: u32) -> Replay
+fn nothing(stop: Stop) -> Replay
     ensures { Counted result × (result.blocks ≡ 0) }
 {
     Replay {
@@ -65,8 +50,8 @@ fn replayed(t: &mut [u32], bytes: &[u8], first: u64) -> Replay
     ensures { Counted result × (kind.block_bytes * result.blocks ≤ length bytes.now) }
 {
     match limiter::replay(t, bytes, first) {
-        Replayed::Reported(r) => r,
-        Replayed::Refused(x) => nothing(x.number),
+        Ok(replay) => replay,
+        Err(refusal) => nothing(Stop::Block(refusal)),
     }
 }
 
@@ -104,9 +89,9 @@ fn both(a: Replay, b: Replay) -> Replay
 fn replay(rt: &(impl Input + Eprint), t: &mut [u32], most: u64) -> Replay
     requires { most ≤ 1 + kind.blocks }
 {
-    let mut all = nothing(Report::ENDED);
+    let mut all = nothing(Stop::Ended);
     while all.blocks < most {
-        let wanted = least(PIECE, most - all.blocks);
+        let wanted = PIECE.min(most - all.blocks);
         let more = next(rt, t, all.blocks, wanted);
         all = both(all, more);
         if more.blocks < wanted {
@@ -127,7 +112,7 @@ fn line(out: &mut [u8], r: Replay) -> usize
         0,
         b"stop # blocks # done # joined # evicted # passed # served # turned # idle #\n",
         &[
-            s.stop as u64,
+            u64::from(u32::from(s.stop)),
             r.blocks,
             s.done,
             s.joined,
@@ -155,11 +140,8 @@ fn waiting(t: &[u32], pairs: &mut [u32], out: &mut [u8], at: usize) -> usize
     ensures { Put out.old at (waiting_lines t.now) out.new result }
 {
     match limiter::heaviest(t, LinkedTable::LARGEST, pairs) {
-        Listed::Number(n) => {
-            let words = 2 * n;
-            lines(out, at, &pairs[..words])
-        }
-        Listed::Refused(_) => at,
+        Ok(n) => lines(out, at, &pairs[..2 * n]),
+        Err(_) => at,
     }
 }
 
@@ -173,9 +155,9 @@ fn show(t: &[u32], r: Replay, out: &mut [u8; PAGE]) -> usize
     waiting(t, &mut pairs, out, at)
 }
 
-fn refuse(rt: &(impl Print + Eprint), number: u32) {
+fn refuse(rt: &(impl Print + Eprint), refusal: Refusal) {
     let mut line = [0u8; 32];
-    let n = printer::refuse(&mut line, number);
+    let n = printer::refuse(&mut line, u32::from(refusal));
     report::output(rt, &line[..n]);
 }
 
@@ -183,12 +165,11 @@ fn refuse(rt: &(impl Print + Eprint), number: u32) {
 fn evening(rt: &(impl Input + Print + Eprint), places: u64, blocks: u64) {
     let mut t = [0u32; TABLE];
     let mut page = [0u8; PAGE];
-    let number = layout::lay_out(&mut t, places as usize);
-    if number != 0 {
-        refuse(rt, number);
+    if let Err(refusal) = layout::lay_out(&mut t, places as usize) {
+        refuse(rt, refusal);
         return;
     }
-    let r = replay(rt, &mut t, least(blocks, Block::BLOCKS + 1));
+    let r = replay(rt, &mut t, blocks.min(Block::BLOCKS + 1));
     let n = show(&t, r, &mut page);
     report::output(rt, &page[..n]);
 }
@@ -199,7 +180,7 @@ fn usage(rt: &impl Eprint) {
 
 fn main(rt: HostRuntime) {
     let n = report::argument_count(&rt);
-    let Given::Number(places) = argument(&rt, 1) else {
+    let Some(places) = argument(&rt, 1) else {
         usage(&rt);
         return;
     };
@@ -207,7 +188,7 @@ fn main(rt: HostRuntime) {
         evening(&rt, places, Block::BLOCKS + 1);
         return;
     }
-    let Given::Number(blocks) = argument(&rt, 2) else {
+    let Some(blocks) = argument(&rt, 2) else {
         usage(&rt);
         return;
     };

@@ -1,17 +1,18 @@
 -- Two reports, one behind the other: their sums are the totals of all the outcomes, and none passes the number of the outcomes.
 use mathlib.Core.List.{List, [], ◌∷◌, ◌++◌}
 use mathlib.Core.Path.{◌≡◌, sym}
-use Prim.Native.Nat.{ℕ, ◌+◌, ◌≤◌}
+use Prim.Native.Nat.{◌+◌, ◌≤◌}
 use native.Mathlib.Omega.{arith}
 use lib.ListN.{length, length-append}
 use Rattle.rules.specs.Commands.{Outcome, joined, evicted, turned, passed, served, idle}
 use Rattle.rules.specs.Run.{adds, total}
 use Rattle.rules.proofs.Run.{all_counted, total_append}
+use Rattle.answers.specs.declared.Stop.{Stop}
 use Rattle.run.specs.Seen.{largest}
 use Rattle.run.specs.Runs.{totalled}
 use Rattle.replayer.specs.Replays.{both_of, BothFit}
 
-pub both_totalled : (m n : ℕ) (os ps : List Outcome) → both_of (totalled m os) (totalled n ps) ≡ totalled n (os ++ ps)
+pub both_totalled : (m n : Stop) (os ps : List Outcome) → both_of (totalled m os) (totalled n ps) ≡ totalled n (os ++ ps)
 both_totalled m n os ps =
     let long : length os + length ps ≡ length (os ++ ps) = omega (arith, length-append os ps) in
     λ i. record {
@@ -38,7 +39,7 @@ all_join : (os : List Outcome) → total (λ k. k.evicted) os + total (λ k. k.p
 all_join [] = omega arith
 all_join (o ∷ os) = omega (arith, joins o, all_join os)
 
-pub both_fit : (m n : ℕ) (os ps : List Outcome) → length os + length ps ≤ largest → BothFit (totalled m os) (totalled n ps)
+pub both_fit : (m n : Stop) (os ps : List Outcome) → length os + length ps ≤ largest → BothFit (totalled m os) (totalled n ps)
 both_fit m n os ps h =
     let a = all_counted os in
     let b = all_counted ps in

@@ -1,15 +1,16 @@
--- The words that differ, counted from the front.
-use Rattle.std.proofs.Common.{List, [], ◌∷◌, ◌≡◌, refl, ℕ, ◌+◌, ◌≤◌, arith, length, drop, drop_of_length-le}
+-- The words that differ, as pairs.
+use Rattle.std.proofs.Common.{List, [], ◌∷◌, ◌≡◌, refl, ℕ, ◌+◌, Bool, true, false, not, eqb, cond, length, arith}
+use Rattle.std.specs.List.{zip, filter}
 use Rattle.table.specs.Regions.{altered}
 
--- n places differ among the first i, and the rest is still to be compared
-abbrev pub Counted : List ℕ → List ℕ → ℕ → ℕ → Type 0
-Counted a b i n = n + altered (drop i a) (drop i b) ≡ altered a b
+-- one more pair, which may differ
+counted_head : (equal : Bool) (p : ℕ × ℕ) (ps : List (ℕ × ℕ)) (n : ℕ) → length ps ≡ n → length (cond (not equal) (p ∷ ps) ps) ≡ cond equal 0 1 + n
+counted_head true p ps n e = omega (arith, e)
+counted_head false p ps n e = omega (arith, e)
 
-none_left : (xs : List ℕ) → altered xs [] ≡ 0
-none_left [] = refl
-none_left (x ∷ xs) = refl
-
--- the second has no more words
-pub second_ends : (a b : List ℕ) (i n : ℕ) → length b ≤ i → Counted a b i n → n ≡ altered a b
-second_ends a b i n h c = omega (arith, rw (drop_of_length-le b h, none_left) at c)
+-- so many pairs of the two lists differ
+pub counted : (a b : List ℕ) → length (filter (λ p. not (eqb p.0 p.1)) (zip a b)) ≡ altered a b
+counted [] [] = refl
+counted [] (y ∷ b) = refl
+counted (x ∷ a) [] = refl
+counted (x ∷ a) (y ∷ b) = counted_head (eqb x y) (x, y) (filter (λ p. not (eqb p.0 p.1)) (zip a b)) (altered a b) (counted a b)

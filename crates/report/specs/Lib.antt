@@ -1,2 +1,3 @@
--- What the contracts of reading cite.
+-- What the contracts of this crate cite.
 pub mod Counts
+pub mod Digits

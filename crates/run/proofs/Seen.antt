@@ -14,8 +14,9 @@ use Rattle.rules.specs.History as history
 use Rattle.rules.specs.Commands.{Outcome, joined, evicted, turned, passed, served, idle, of_choice, of_slide, of_serve}
 use Rattle.rules.specs.Run.{Totals, totals, total}
 use Rattle.rules.proofs.Run.{all_counted}
+use Rattle.answers.specs.declared.Stop.{Stop}
 use Rattle.answers.specs.Engine.{as_choice, as_left}
-use Rattle.run.specs.Seen.{case_of, cases, arrive_case, slide_case, serve_case, of_case, Seen, joined_in, report_on}
+use Rattle.run.specs.Seen.{case_of, place_of, cases, arrive_case, slide_case, serve_case, of_case, Seen, joined_in, report_on}
 use Rattle.run.specs.Runs.{totalled}
 
 -- what a step answers has the place of what its command came to
@@ -36,7 +37,7 @@ serve_case_lem (history.left r) = refl
 pub none_seen : Seen (replicate cases 0) []
 none_seen = record { long = refl; each = λ k h. get_or-replicate cases k 0 0 h }
 
-pub case_below : (o : Outcome) → case_of o < cases
+pub case_below : (o : Outcome) → place_of (case_of o) < cases
 case_below joined = omega arith
 case_below (evicted r) = omega arith
 case_below turned = omega arith
@@ -47,7 +48,7 @@ case_below idle = omega arith
 module _ (k : ℕ) where
   of_append : (os ps : List Outcome) → of_case k (os ++ ps) ≡ of_case k os + of_case k ps
   of_append [] ps = omega arith
-  of_append (o ∷ os) ps = go (eqb (case_of o) k) (of_append os ps)
+  of_append (o ∷ os) ps = go (eqb (place_of (case_of o)) k) (of_append os ps)
     where
       go : (b : Bool) → of_case k (os ++ ps) ≡ of_case k os + of_case k ps → cond b (suc (of_case k (os ++ ps))) (of_case k (os ++ ps)) ≡ cond b (suc (of_case k os)) (of_case k os) + of_case k ps
       go true e = omega (arith, e)
@@ -56,7 +57,7 @@ module _ (k : ℕ) where
   -- no case has more commands than there are
   few_of : (os : List Outcome) → of_case k os ≤ length os
   few_of [] = omega arith
-  few_of (o ∷ os) = go (eqb (case_of o) k) (few_of os)
+  few_of (o ∷ os) = go (eqb (place_of (case_of o)) k) (few_of os)
     where
       go : (b : Bool) → of_case k os ≤ length os → cond b (suc (of_case k os)) (of_case k os) ≤ suc (length os)
       go true h = omega (arith, h)
@@ -64,17 +65,17 @@ module _ (k : ℕ) where
 
 module _ {seen : List ℕ} {os : List Outcome} (v : Seen seen os) where
   -- one more
-  pub one_more_lem : (o : Outcome) → Seen (set seen (case_of o) (get_or seen (case_of o) 0 + 1)) (os ++ (o ∷ []))
+  pub one_more_lem : (o : Outcome) → Seen (set seen (place_of (case_of o)) (get_or seen (place_of (case_of o)) 0 + 1)) (os ++ (o ∷ []))
   one_more_lem o =
       record {
-        long = length-set seen (case_of o) _ ∙ v.long;
-        each = λ k h. elim (ℕ_discrete k (case_of o)) [
-          | yes e ↦ (let one : of_case k (o ∷ []) ≡ 1 = simp (eq-eqb (case_of o) k (sym e)) in
-              ap (λ (j : ℕ). get_or (set seen (case_of o) (get_or seen (case_of o) 0 + 1)) j 0) e
-              ∙ get_or-set_same seen (case_of o) _ 0 (omega (arith, case_below o, v.long))
-              ∙ omega (arith, v.each (case_of o) (case_below o), ap (λ (j : ℕ). of_case j os) e, of_append k os (o ∷ []), one))
-          | no n ↦ (let none : of_case k (o ∷ []) ≡ 0 = simp (ne_eqb (case_of o) k (λ e. n (sym e))) in
-              get_or-set_other seen (case_of o) k _ 0 n ∙ omega (arith, v.each k h, of_append k os (o ∷ []), none))
+        long = length-set seen (place_of (case_of o)) _ ∙ v.long;
+        each = λ k h. elim (ℕ_discrete k (place_of (case_of o))) [
+          | yes e ↦ (let one : of_case k (o ∷ []) ≡ 1 = simp (eq-eqb (place_of (case_of o)) k (sym e)) in
+              ap (λ (j : ℕ). get_or (set seen (place_of (case_of o)) (get_or seen (place_of (case_of o)) 0 + 1)) j 0) e
+              ∙ get_or-set_same seen (place_of (case_of o)) _ 0 (omega (arith, case_below o, v.long))
+              ∙ omega (arith, v.each (place_of (case_of o)) (case_below o), ap (λ (j : ℕ). of_case j os) e, of_append k os (o ∷ []), one))
+          | no n ↦ (let none : of_case k (o ∷ []) ≡ 0 = simp (ne_eqb (place_of (case_of o)) k (λ e. n (sym e))) in
+              get_or-set_other seen (place_of (case_of o)) k _ 0 n ∙ omega (arith, v.each k h, of_append k os (o ∷ []), none))
         ];
       }
 
@@ -101,7 +102,7 @@ module _ {seen : List ℕ} {os : List Outcome} (v : Seen seen os) where
   pub joined_few : joined_in seen ≤ length os
   joined_few = omega (arith, seen_joined, all_counted os)
 
-  pub seen_totalled : (stop : ℕ) {done : ℕ} → done ≡ length os → report_on stop done seen ≡ totalled stop os
+  pub seen_totalled : (stop : Stop) {done : ℕ} → done ≡ length os → report_on stop done seen ≡ totalled stop os
   seen_totalled stop e =
       let evicts : get_or seen 1 0 ≡ total (λ k. k.evicted) os = omega (arith, v.each 1 (omega arith), by_case (λ k. k.evicted) os) in
       let passes : get_or seen 3 0 ≡ total (λ k. k.passed) os = omega (arith, v.each 3 (omega arith), by_case (λ k. k.passed) os) in

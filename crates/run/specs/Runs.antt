@@ -5,9 +5,11 @@ use Rattle.rules.specs.Commands.{Outcome}
 use Rattle.rules.specs.Run.{stop, carried, outcomes, total}
 use Rattle.rules.specs.Picture.{Picture, limits_of, plain}
 use Rattle.answers.specs.declared.Report.{Report}
+use Rattle.answers.specs.declared.Stop.{Stop}
+use Rattle.answers.specs.Offered.{run_stop}
 
 -- the totals of these outcomes, with a stop
-abbrev pub totalled : ℕ → List Outcome → Report
+abbrev pub totalled : Stop → List Outcome → Report
 totalled stop os =
     record {
       stop = stop;
@@ -22,7 +24,7 @@ totalled stop os =
 
 -- the report with a budget b on the bytes s, where w waits within limits
 abbrev pub report_of : Limits → Waiting → ℕ → List ℕ → Report
-report_of L w b s = totalled (stop b s) (outcomes L w (carried b s))
+report_of L w b s = totalled (run_stop (stop b s)) (outcomes L w (carried b s))
 
 -- from a picture
 abbrev pub reported : Picture → ℕ → List ℕ → Report

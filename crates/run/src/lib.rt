@@ -2,7 +2,6 @@
 #![tactic(auto)]
 
 ghost use Rattle.std.specs.Prelude.{◌≡◌, ◌≤◌};
-ghost use Rattle.rules.specs.Spread.{IsSpread};
 ghost use Rattle.rules.specs.Picture.{limits_of, plain};
 ghost use Rattle.rules.specs.Commands as commands;
 ghost use Rattle.rules.specs.Run as rule;
@@ -10,121 +9,119 @@ ghost use Rattle.rules.specs.Draw.{draw};
 ghost use Rattle.rules.specs.Sound.{picture};
 ghost use Rattle.rules.specs.Ready.{Ready};
 ghost use Rattle.command.specs.Bytes.{as_command};
-ghost use Rattle.run.specs.Seen.{largest, case_of, arrive_case, slide_case, serve_case, joined_in, report_on};
+ghost use Rattle.run.specs.Seen.{largest, case_of, place_of, arrive_case, slide_case, serve_case, joined_in, report_on};
 ghost use Rattle.run.specs.Runs.{reported};
 
-use answers::{Choice, Left, Report};
+use answers::{Choice, Report, Request, Stop};
 use command::Command;
+use spread::Spread;
 
 // What a command came to: the place of its count among the six.
-#[derive(Clone, Copy)]
-struct Case {}
+#[derive(Clone, Copy, Debug, PartialEq, Eq)]
+enum Case {
+    Joined,
+    Evicted,
+    Turned,
+    Passed,
+    Served,
+    Idle,
+}
 
 impl Case {
-    const JOINED: usize = 0;
-
-    const EVICTED: usize = 1;
-
-    const TURNED: usize = 2;
-
-    const PASSED: usize = 3;
-
-    const SERVED: usize = 4;
-
-    const IDLE: usize = 5;
-
     const ALL: usize = 6;
+
+    fn place(self) -> usize
+        ensures { result ≡ place_of self }
+    {
+        self as usize
+    }
 }
 
 // What an arrive came to.
-fn of_arrive(c: Choice) -> usize
-    ensures { result ≡ arrive_case c }
+fn of_arrive(choice: Choice) -> Case
+    ensures { result ≡ arrive_case choice }
 {
-    match c {
-        Choice::Joined => Case::JOINED,
-        Choice::Evicted(_) => Case::EVICTED,
-        Choice::Turned => Case::TURNED,
+    match choice {
+        Choice::Joined => Case::Joined,
+        Choice::Evicted(_) => Case::Evicted,
+        Choice::Turned => Case::Turned,
     }
 }
 
 // What a slide came to.
-fn of_slide(l: Left) -> usize
-    ensures { result ≡ slide_case l }
+fn of_slide(left: Option<Request>) -> Case
+    ensures { result ≡ slide_case left }
 {
-    match l {
-        Left::Nothing => Case::JOINED,
-        Left::One(_) => Case::PASSED,
+    match left {
+        None => Case::Joined,
+        Some(_) => Case::Passed,
     }
 }
 
 // What a serve came to: where nobody waits, the command was idle.
-fn of_serve(l: Left) -> usize
-    ensures { result ≡ serve_case l }
+fn of_serve(left: Option<Request>) -> Case
+    ensures { result ≡ serve_case left }
 {
-    match l {
-        Left::Nothing => Case::IDLE,
-        Left::One(_) => Case::SERVED,
+    match left {
+        None => Case::Idle,
+        Some(_) => Case::Served,
     }
 }
 
 // Carries a command out, and tells what it came to.
-fn carry_out(t: &mut [u32], q: usize, s: &[u32; 1024], c: Command) -> usize
+fn carry_out(t: &mut [u32], q: usize, s: &Spread, command: Command) -> Case
     requires ready { Ready q t.old }
-    requires spread { IsSpread s.now }
-    ensures value { result ≡ case_of (commands.outcome (limits_of (picture t.old)) (plain (picture t.old)) (as_command c)) }
-    ensures t_after { t.new ≡ draw (commands.next (picture t.old) (as_command c)) }
+    ensures value { result ≡ case_of (commands.outcome (limits_of (picture t.old)) (plain (picture t.old)) (as_command command)) }
+    ensures t_after { t.new ≡ draw (commands.next (picture t.old) (as_command command)) }
 {
-    if c.kind == Command::ARRIVE {
-        return of_arrive(steps::arrive(t, q, s, c.id, c.ticket));
+    match command {
+        Command::Arrive(r) => of_arrive(steps::arrive(t, q, s, r.id, r.ticket)),
+        Command::Slide(r) => of_slide(steps::slide(t, q, s, r.id, r.ticket)),
+        Command::Serve => of_serve(steps::serve(t, q, s)),
     }
-    if c.kind == Command::SLIDE {
-        return of_slide(steps::slide(t, q, s, c.id, c.ticket));
-    }
-    of_serve(steps::serve(t, q, s))
 }
 
 // The report of a run that stops, having carried out so many commands, which came to what was seen.
-fn report(stop: u32, done: u64, seen: [u64; Case::ALL]) -> Report
+fn report(stop: Stop, done: u64, seen: [u64; Case::ALL]) -> Report
     requires { joined_in seen ≤ largest }
     ensures { result ≡ report_on stop done seen }
 {
+    let [joined, evicted, turned, passed, served, idle] = seen;
     Report {
         stop,
         done,
-        joined: seen[Case::JOINED] + seen[Case::EVICTED] + seen[Case::PASSED],
-        evicted: seen[Case::EVICTED],
-        passed: seen[Case::PASSED],
-        served: seen[Case::SERVED],
-        turned: seen[Case::TURNED],
-        idle: seen[Case::IDLE],
+        joined: joined + evicted + passed,
+        evicted,
+        passed,
+        served,
+        turned,
+        idle,
     }
 }
 
 // Carries out commands until one of the four stops.
-pub fn run(t: &mut [u32], q: usize, s: &[u32; 1024], bytes: &[u8], budget: u64) -> Report
+pub fn run(t: &mut [u32], q: usize, s: &Spread, bytes: &[u8], budget: u64) -> Report
     requires ready { Ready q t.old }
-    requires spread { IsSpread s.now }
     ensures value { result ≡ reported (picture t.old) budget bytes.now }
     ensures t_after { t.new ≡ draw (rule.next_all (picture t.old) (rule.carried budget bytes.now)) }
 {
-    let mut at: usize = 0;
+    let mut rest = bytes;
     let mut done: u64 = 0;
     let mut seen = [0u64; Case::ALL];
-    while at < bytes.len() {
+    while !rest.is_empty() {
         if done == budget {
-            return report(Report::SPENT, done, seen);
+            return report(Stop::Spent, done, seen);
         }
-        if bytes.len() - at < Command::BYTES {
-            return report(Report::CUT, done, seen);
+        if rest.len() < Command::BYTES {
+            return report(Stop::Cut, done, seen);
         }
-        let c = command::command_at(bytes, at);
-        if !command::known(c) {
-            return report(Report::BAD_COMMAND, done, seen);
-        }
-        let k = carry_out(t, q, s, c);
+        let Some(command) = command::command_at(rest, 0) else {
+            return report(Stop::BadCommand, done, seen);
+        };
+        let k = carry_out(t, q, s, command).place();
         seen[k] += 1;
         done += 1;
-        at += Command::BYTES;
+        rest = &rest[Command::BYTES..];
     }
-    report(Report::ENDED, done, seen)
+    report(Stop::Ended, done, seen)
 }

@@ -22,8 +22,8 @@ use Rattle.rules.proofs.Leaving.{front_request, front_step}
 use Rattle.rules.proofs.Steps.{full_waits, open_room}
 use Rattle.rules.proofs.Ready.{ready_right, ready_drawn, ready_sized, drawn_ready, drawn_picture}
 use Rattle.answers.specs.Engine.{as_struct, as_left}
-use Rattle.answers.specs.declared.Left.{Left}
-use Rattle.answers.specs.declared.Left.TheVariants as lefts
+use Rattle.std.specs.Prelude.{Option, Some, None}
+use Rattle.answers.specs.declared.Request as code
 
 module _ (P : Picture) (id ticket : ℕ) where
   pub arrived_by : {c : Choice} → choice (limits_of P) (plain P) id ≡ c → arrived P id ticket ≡ arrived_as c P id ticket
@@ -91,24 +91,24 @@ module _ {q : ℕ} {t : List ℕ} (y : Ready q t) {b : Bool} (is : b ≡ full (l
   some_wait e = full_waits P (ready_right y) (sym is ∙ e)
 
 -- a table where a request can join, after another left or as it was, and what it is to the slide
-pub record Roomy (q : ℕ) (t u : List ℕ) (left : Left) : Type 0 where
+pub record Roomy (q : ℕ) (t u : List ℕ) (left : Option code.Request) : Type 0 where
   pub ready : Ready q u
   pub room : 1 ≤ length (picture u).free_items
   pub told : left ≡ as_left (slide_left (limits_of (picture t)) (plain (picture t)))
   pub joins : (id ticket : ℕ) → join (picture u) id ticket ≡ slid (picture t) id ticket
 
-pub roomy_so : {q : ℕ} {t u v : List ℕ} {left gone : Left} → u ≡ v → left ≡ gone → Roomy q t v gone → Roomy q t u left
+pub roomy_so : {q : ℕ} {t u v : List ℕ} {left gone : Option code.Request} → u ≡ v → left ≡ gone → Roomy q t v gone → Roomy q t u left
 roomy_so {q} {t} {v = v} {left} e l r = subst (λ (x : List ℕ). Roomy q t x left) (sym e) (subst (Roomy q t v) (sym l) r)
 
 -- the request that arrives there joins
-pub roomy_slid : {q : ℕ} {t u v : List ℕ} {left : Left} → Roomy q t u left → (id ticket : ℕ) → v ≡ draw (arrived (picture u) id ticket) → v ≡ draw (slid (picture t) id ticket)
+pub roomy_slid : {q : ℕ} {t u v : List ℕ} {left : Option code.Request} → Roomy q t u left → (id ticket : ℕ) → v ≡ draw (arrived (picture u) id ticket) → v ≡ draw (slid (picture t) id ticket)
 roomy_slid {u = u} r id ticket d =
     let room = room_open (picture u) (ready_right r.ready) r.room in
     d ∙ ap draw (arrived_by (picture u) id ticket (choice_joined (limits_of (picture u)) (plain (picture u)) id room) ∙ r.joins id ticket)
 
 module _ {q : ℕ} {t : List ℕ} (y : Ready q t) {b : Bool} (is : b ≡ full (limits_of (picture t)) (plain (picture t))) where
   -- a place was free
-  pub had_room : b ≡ false → Roomy q t t lefts.Nothing
+  pub had_room : b ≡ false → Roomy q t t None
   had_room e =
       let room = sym is ∙ e in
       record { ready = y; room = open_place y is e; told = rw room; joins = λ id ticket. sym (slid_joined (picture t) id ticket room) }
@@ -128,7 +128,7 @@ module _ {q : ℕ} {t : List ℕ} (y : Ready q t) {b : Bool} (is : b ≡ full (l
 
 -- and by how many wait
 module _ {q : ℕ} {t : List ℕ} (y : Ready q t) {n : ℕ} (is : n ≡ length (picture t).window) where
-  pub serve_idle : n ≡ 0 → (lefts.Nothing ≡ as_left (history.served (plain (picture t)))) × (t ≡ draw (served (picture t)))
+  pub serve_idle : n ≡ 0 → (None ≡ as_left (history.served (plain (picture t)))) × (t ≡ draw (served (picture t)))
   serve_idle e =
       (rw (nobody_first (request_of (picture t).clients) (picture t).window (sym is ∙ e)), ready_drawn y ∙ ap draw (sym (served_nobody (picture t) (sym is ∙ e))))
 
@@ -136,6 +136,6 @@ module _ {q : ℕ} {t : List ℕ} (y : Ready q t) {n : ℕ} (is : n ≡ length (
   serve_some m = omega (arith, is, m)
 
   pub serve_front : {u : List ℕ} → (n ≡ 0 → ⊥) → u ≡ draw (leave (picture t) (front_item (picture t).window))
-      → (lefts.One (as_struct (request_of (picture t).clients (front_item (picture t).window))) ≡ as_left (history.served (plain (picture t)))) × (u ≡ draw (served (picture t)))
+      → (Some (as_struct (request_of (picture t).clients (front_item (picture t).window))) ≡ as_left (history.served (plain (picture t)))) × (u ≡ draw (served (picture t)))
   serve_front m d =
       (rw (front_request (picture t) (ready_right y) (serve_some m)), d ∙ ap draw (sym (served_front (picture t) (λ e. m (is ∙ e)))))

@@ -25,7 +25,7 @@ use Rattle.rules.proofs.Leaving as leaving
 use Rattle.rules.proofs.Ready.{ready_right, ready_ordered, ready_queued}
 use Rattle.window.proofs.Read.{newest_is, front_is}
 use Rattle.answers.specs.Engine.{as_struct, as_left}
-use Rattle.answers.specs.declared.Left.TheVariants as lefts
+use Rattle.std.specs.Prelude.{Some}
 use Rattle.answers.specs.declared.Request.{Request}
 use Rattle.questions.proofs.Kept.{client_low}
 use Rattle.steps.specs.Items.{item_in}
@@ -118,9 +118,9 @@ module _ {q : ℕ} {t : List ℕ} (y : Ready q t) where
 -- the front item leaves: that is a serve
 pub front_left : {q : ℕ} {t : List ℕ} (y : Ready q t) {n r : ℕ} → n ≡ get_or t kind.requests_at 0 → (n ≡ 0 → ⊥) → r ≡ get_or t kind.front_at 0 → {x : Request} {u : List ℕ}
     → x ≡ as_struct (request_of (picture t).clients (item_in r (picture t).window)) → u ≡ draw (leave (picture t) (item_in r (picture t).window))
-    → (lefts.One x ≡ as_left (history.served (plain (picture t)))) × (u ≡ draw (served (picture t)))
+    → (Some x ≡ as_left (history.served (plain (picture t)))) × (u ≡ draw (served (picture t)))
 front_left y e m k a d =
     let is = requests_are y e in
     let left = waits_left (front_waits y (serve_some y is m) k) a d in
     let (told, drawn) = serve_front y is m left.1 in
-    (ap lefts.One left.0 ∙ told, drawn)
+    (ap Some left.0 ∙ told, drawn)

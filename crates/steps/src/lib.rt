@@ -5,7 +5,6 @@ ghost use Rattle.std.specs.Prelude.{true, ◌≡◌, ◌≤◌, length};
 ghost use Rattle.table.specs.Regions.{regions};
 ghost use Rattle.table.specs.Owners.{order_words};
 ghost use Rattle.rules.specs.Rows.{In};
-ghost use Rattle.rules.specs.Spread.{IsSpread};
 ghost use Rattle.rules.specs.History as history;
 ghost use Rattle.rules.specs.Picture.{client_rows, item_rows, count_of, request_of, limits_of, plain};
 ghost use Rattle.rules.specs.Steps as steps;
@@ -16,8 +15,9 @@ ghost use Rattle.lookup.specs.Promise.{Found, Home};
 ghost use Rattle.answers.specs.Engine.{as_struct, as_choice, as_left};
 ghost use Rattle.steps.specs.Items.{item_in};
 
-use answers::{Choice, Left, Request};
+use answers::{Choice, Request};
 use lookup::Sought;
+use spread::Spread;
 use table::{LinkedTable, Ticket};
 
 // The arrival rule where the window is full: whether a client with n waiting requests is turned away, m being the largest count. One more is counted in 64 bits, where it cannot wrap.
@@ -81,9 +81,8 @@ fn leave_one(t: &mut [u32], q: usize, c: u32, n: u32, r: u32) -> Request
 }
 
 // The request in item row r leaves, the only one of the client in row c, which goes; it is the reply.
-fn leave_only(t: &mut [u32], q: usize, s: &[u32; 1024], c: u32, r: u32) -> Request
+fn leave_only(t: &mut [u32], q: usize, s: &Spread, c: u32, r: u32) -> Request
     requires ready { Ready q t.old }
-    requires spread { IsSpread s.now }
     requires waits { In r (item_rows (picture t.old)) × ((item_in r (picture t.old).window).client ≡ c) }
     requires c_value { count_of (picture t.old).window c ≡ 1 }
     ensures value { result ≡ as_struct (request_of (picture t.old).clients (item_in r (picture t.old).window)) }
@@ -97,59 +96,54 @@ fn leave_only(t: &mut [u32], q: usize, s: &[u32; 1024], c: u32, r: u32) -> Reque
 
 // Arrive: the request joins; where the window is full, the newest of the heaviest client leaves first, or the arriving client is turned away.
 // Who is not turned away has two requests fewer than the heaviest client at least: that client has several, and stays.
-pub fn arrive(t: &mut [u32], q: usize, s: &[u32; 1024], id: u32, ticket: Ticket) -> Choice
+pub fn arrive(t: &mut [u32], q: usize, s: &Spread, id: u32, ticket: Ticket) -> Choice
     requires ready { Ready q t.old }
-    requires spread { IsSpread s.now }
     ensures reply { result ≡ as_choice (history.choice (limits_of (picture t.old)) (plain (picture t.old)) id) }
     ensures words { t.new ≡ draw (steps.arrived (picture t.old) id ticket) }
 {
     let at = lookup::find(t, q, s, id);
     let n = questions::count_in(t, q, at.row);
-    let mut choice = Choice::Joined;
-    if full(t, q) {
+    let choice = if full(t, q) {
         let c = table::header(t, q, LinkedTable::HEAVIEST_AT);
         let m = table::client(t, q, c, LinkedTable::COUNT);
         if turned_away(n, m) {
             return Choice::Turned;
         }
         let r = window::newest(t, q, c);
-        choice = Choice::Evicted(leave_one(t, q, c, m, r));
-    }
+        Choice::Evicted(leave_one(t, q, c, m, r))
+    } else {
+        Choice::Joined
+    };
     // the client that lost a request is another one, so what was found of this one is still right
     join(t, q, at, n, id, ticket);
     choice
 }
 
 // Serve: the front request leaves and is the reply.
-pub fn serve(t: &mut [u32], q: usize, s: &[u32; 1024]) -> Left
+pub fn serve(t: &mut [u32], q: usize, s: &Spread) -> Option<Request>
     requires ready { Ready q t.old }
-    requires spread { IsSpread s.now }
     ensures reply { result ≡ as_left (history.served (plain (picture t.old))) }
     ensures words { t.new ≡ draw (steps.served (picture t.old)) }
 {
     if table::header(t, q, LinkedTable::REQUESTS_AT) == 0 {
-        return Left::Nothing;
+        return None;
     }
     let r = table::header(t, q, LinkedTable::FRONT_AT);
     let c = table::item(t, q, r, LinkedTable::OWNER);
     let n = table::client(t, q, c, LinkedTable::COUNT);
     if n == 1 {
-        return Left::One(leave_only(t, q, s, c, r));
+        return Some(leave_only(t, q, s, c, r));
     }
-    Left::One(leave_one(t, q, c, n, r))
+    Some(leave_one(t, q, c, n, r))
 }
 
 // Slide: where the window is full, the front request leaves first, as if it was served; then the new one arrives, and joins, for there is room.
-pub fn slide(t: &mut [u32], q: usize, s: &[u32; 1024], id: u32, ticket: Ticket) -> Left
+pub fn slide(t: &mut [u32], q: usize, s: &Spread, id: u32, ticket: Ticket) -> Option<Request>
     requires ready { Ready q t.old }
-    requires spread { IsSpread s.now }
     ensures reply { result ≡ as_left (history.slide_left (limits_of (picture t.old)) (plain (picture t.old))) }
     ensures words { t.new ≡ draw (steps.slid (picture t.old) id ticket) }
 {
-    let mut left = Left::Nothing;
-    if full(t, q) {
-        left = serve(t, q, s);
-    }
+    let left = if full(t, q) { serve(t, q, s) } else { None };
     arrive(t, q, s, id, ticket);
     left
 }

@@ -1,7 +1,6 @@
 // The recording of the vectors, altered as a line says, and replayed on a fresh table.
-ghost use Rattle.std.specs.Prelude.{◌+◌, ◌<◌, length};
-
-use answers::{Replay, Replayed};
+use crate::words;
+use answers::Replay;
 use recording::Block;
 use std::rt::Files;
 
@@ -10,139 +9,135 @@ const ONCE: usize = 3 * Block::BYTES;
 
 const TWICE: usize = 2 * ONCE;
 
-// A number as a byte: 0 where it is too large for one.
-fn byte(n: usize) -> u8 {
-    if n < 256 { n as u8 } else { 0 }
+// What a line makes of the recording.
+#[derive(Clone, Copy)]
+enum Case {
+    Whole,
+    Cut { end: usize },
+    Twice,
+    Alter { at: usize, byte: u8 },
+    Exchange { a: usize, b: usize },
+    Reseal { at: usize, byte: u8 },
+    SecondFirst,
 }
 
-fn alter(s: &mut [u8], at: usize, v: u8) {
-    if at < s.len() {
-        s[at] = v;
+impl Case {
+    // The case whose name has that first letter, and its two numbers. One that is too large for a byte is taken as 0.
+    fn of(letter: u8, a: usize, b: usize) -> Case {
+        let byte = u8::try_from(b).unwrap_or(0);
+        match letter {
+            b'c' => Case::Cut { end: a },
+            b't' => Case::Twice,
+            b'a' => Case::Alter { at: a, byte },
+            b'e' => Case::Exchange { a, b },
+            b'r' => Case::Reseal { at: a, byte },
+            b's' => Case::SecondFirst,
+            _ => Case::Whole,
+        }
+    }
+
+    // Where the bytes that are replayed end.
+    fn end(self) -> usize {
+        match self {
+            Case::Cut { end } => end,
+            Case::Twice => TWICE,
+            _ => ONCE,
+        }
+    }
+}
+
+fn alter(s: &mut [u8], at: usize, byte: u8) {
+    if let Some(place) = s.get_mut(at) {
+        *place = byte;
     }
 }
 
 fn exchange(s: &mut [u8], a: usize, b: usize) {
     if a < s.len() && b < s.len() {
-        let x = s[a];
-        s[a] = s[b];
-        s[b] = x;
+        s.swap(a, b);
     }
 }
 
 // The check of the block that has byte `at` is made right.
 fn seal(s: &mut [u8], at: usize) {
-    if at < s.len() {
-        let from = at - at % Block::BYTES;
-        if Block::BYTES <= s.len() - from {
-            let end = from + Block::BYTES;
-            let sum = recording::check(&s[from..end]);
-            recorder::put_four(s, from + Block::CHECK_AT, sum);
-        }
+    let (blocks, _) = s.as_chunks_mut::<{ Block::BYTES }>();
+    if let Some(block) = blocks.get_mut(at / Block::BYTES) {
+        let check = recording::check(block);
+        block[Block::CHECK_AT..].copy_from_slice(&check.to_le_bytes());
     }
 }
 
 // The first two blocks are exchanged.
-fn second_first(s: &mut [u8]) {
-    let mut i = 0;
-    while i < Block::BYTES {
-        exchange(s, i, Block::BYTES + i);
-        i += 1;
-    }
+fn second_first(s: &mut [u8; TWICE]) {
+    let (blocks, _) = s.as_chunks_mut::<{ Block::BYTES }>();
+    blocks.swap(0, 1);
 }
 
-// What a case does to the bytes, by its first letter: alter, exchange, reseal, second first.
-fn change(s: &mut [u8], case: u8, a: usize, b: usize) {
-    if case == b'a' {
-        alter(s, a, byte(b));
-    } else if case == b'e' {
-        exchange(s, a, b);
-    } else if case == b'r' {
-        alter(s, a, byte(b));
-        seal(s, a);
-    } else if case == b's' {
-        second_first(s);
+fn change(s: &mut [u8; TWICE], case: Case) {
+    match case {
+        Case::Alter { at, byte } => alter(s, at, byte),
+        Case::Exchange { a, b } => exchange(s, a, b),
+        Case::Reseal { at, byte } => {
+            alter(s, at, byte);
+            seal(s, at);
+        }
+        Case::SecondFirst => second_first(s),
+        Case::Whole | Case::Cut { .. } | Case::Twice => {}
     }
-}
-
-// Where the recording of a case ends: cut, twice, or any other.
-fn end(case: u8, a: usize) -> usize {
-    if case == b'c' {
-        a
-    } else if case == b't' {
-        TWICE
-    } else {
-        ONCE
-    }
-}
-
-// A number, a blank before it.
-fn field(rt: &impl Print, n: u64) {
-    report::field(rt, b" ", n);
 }
 
 fn numbers(rt: &impl Print, r: Replay) {
     let s = r.report;
-    report::word(rt, b": ", s.stop);
-    field(rt, r.blocks);
-    field(rt, s.done);
-    field(rt, s.joined);
-    field(rt, s.evicted);
-    field(rt, s.passed);
-    field(rt, s.served);
-    field(rt, s.turned);
-    field(rt, s.idle);
-}
-
-// Replays a part of the bytes on a fresh table of q places, and prints what that reports.
-fn replay(rt: &impl Print, t: &mut [u32], q: usize, s: &[u8], from: usize, end: usize) {
-    layout::lay_out(t, q);
-    if from <= end && end <= s.len() {
-        match limiter::replay(t, &s[from..end], 0) {
-            Replayed::Reported(r) => numbers(rt, r),
-            Replayed::Refused(x) => report::word(rt, b": refused ", x.number),
-        }
+    report::field(rt, b": ", u32::from(s.stop));
+    for n in [
+        r.blocks, s.done, s.joined, s.evicted, s.passed, s.served, s.turned, s.idle,
+    ] {
+        report::field(rt, b" ", n);
     }
 }
 
-// Reads the recording, and once more behind it.
-fn load(rt: &impl Files, s: &mut [u8]) {
-    if ONCE <= s.len() {
-        report::load(rt, b"evening.bin", &mut s[0..ONCE]);
-        report::load(rt, b"evening.bin", &mut s[ONCE..]);
+// Replays, and prints what that reports.
+fn replay(rt: &impl Print, t: &mut [u32], s: &[u8]) {
+    match limiter::replay(t, s, 0) {
+        Ok(r) => numbers(rt, r),
+        Err(refusal) => report::field(rt, b": refused ", u32::from(refusal)),
     }
 }
 
-// The case that begins at place `at` of a line. Of the two whose first letter is w, `without the first` has i behind it.
-fn case(rt: &(impl Files + Print), s: &[u8], at: usize, t: &mut [u32], q: usize)
-    requires { at + 1 < length s.now }
-{
-    let mut bytes = [0u8; TWICE];
-    load(rt, &mut bytes);
-    let a = report::next(s, report::find(s, at, b' '));
-    let b = report::next(s, a.end);
-    let p = a.number as usize;
-    change(&mut bytes, s[at], p, b.number as usize);
-    let from = if s[at + 1] == b'i' { Block::BYTES } else { 0 };
-    replay(rt, t, q, &bytes, from, end(s[at], p));
+// The recording, and once more behind it.
+fn load(rt: &impl Files) -> [u8; TWICE] {
+    let mut s = [0u8; TWICE];
+    report::load(rt, b"evening.bin", &mut s[..ONCE]);
+    report::load(rt, b"evening.bin", &mut s[ONCE..]);
+    s
 }
 
-// The same behind the blank at `at`.
-fn behind(rt: &(impl Files + Print), s: &[u8], at: usize, t: &mut [u32], q: usize) {
-    if at < s.len() {
-        let start = at + 1;
-        if 1 < s.len() - start {
-            case(rt, s, start, t, q);
-        }
+// Replays what a case makes of the recording, on a fresh table of q places; nothing where under two bytes say the case.
+// Of the two whose first letter is w, `without the first` has i behind it.
+fn carry_out(rt: &(impl Files + Print), said: &[u8], t: &mut [u32], q: usize) {
+    let [first, second, ..] = said else {
+        return;
+    };
+    let a = report::next(said, report::find(said, 0, b' '));
+    let b = report::next(said, a.end);
+    let case = Case::of(*first, a.number as usize, b.number as usize);
+    let from = if *second == b'i' { Block::BYTES } else { 0 };
+    let mut s = load(rt);
+    change(&mut s, case);
+    let _ = layout::lay_out(t, q);
+    if let Some(part) = s.get(from..case.end()) {
+        replay(rt, t, part);
     }
 }
 
 // A line of the vectors: places and case, and what the replay comes to.
 pub fn line(rt: &(impl Files + Print), s: &[u8], t: &mut [u32]) {
-    let said = report::find(s, 0, b':');
     let places = report::next(s, report::find(s, 0, b' '));
     let q = places.number as usize;
-    report::text(rt, &s[0..said]);
-    behind(rt, s, places.end, t, q);
+    report::text(rt, &s[..report::find(s, 0, b':')]);
+    if let Some([_, said @ ..]) = s.get(places.end..) {
+        carry_out(rt, said, t, q);
+    }
     report::text(rt, b" :");
-    crate::words(rt, t, q);
+    words::print(rt, t, q);
 }

@@ -13,15 +13,15 @@ use Rattle.rules.specs.Numbers as number
 use Rattle.rules.specs.Verdict.{room, verdict, accepts}
 use Rattle.rules.proofs.Decide.{range_decides}
 use Rattle.rules.proofs.Verdict.{refused_by, by_soundness}
-use Rattle.answers.specs.declared.Opened.TheVariants as opened
+use Rattle.std.specs.Prelude.{Ok, Err}
 use Rattle.answers.specs.Offered.{refusal, opened_on}
 
 module _ (t : List ℕ) where
-  pub refused : (n : ℕ) → verdict t ≡ suc n → opened.Refused (refusal (suc n)) ≡ opened_on t
+  pub refused : (n : ℕ) → verdict t ≡ suc n → Err (refusal (suc n)) ≡ opened_on t
   unfolding accepts
   refused n e = rw (refused_by t e, e)
 
-  pub taken : verdict t ≡ 0 → opened.Table (get_or t kind.places_at 0) ≡ opened_on t
+  pub taken : verdict t ≡ 0 → Ok (get_or t kind.places_at 0) ≡ opened_on t
   unfolding accepts
   taken e = rw e
 
@@ -36,8 +36,8 @@ module _ (t : List ℕ) where
     told : (ok : Bool) → ok ≡ sound (take need t) → verdict t ≡ cond ok 0 number.unsound
     told ok e = by_soundness t long mark r (omega arith) ∙ rw (e, is)
 
-    pub not_sound : false ≡ sound (take need t) → opened.Refused (refusal number.unsound) ≡ opened_on t
+    pub not_sound : false ≡ sound (take need t) → Err (refusal number.unsound) ≡ opened_on t
     not_sound e = refused 2 (told false e)
 
-    pub is_sound : true ≡ sound (take need t) → opened.Table (get_or t kind.places_at 0) ≡ opened_on t
+    pub is_sound : true ≡ sound (take need t) → Ok (get_or t kind.places_at 0) ≡ opened_on t
     is_sound e = taken (told true e)

@@ -1,1 +1,2 @@
+-- What the header's part of the check tells.
 pub mod Zeros

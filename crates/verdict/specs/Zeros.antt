@@ -1,6 +1,5 @@
--- The header's words from the first zero up to word n are 0.
-use Rattle.std.specs.Prelude.{List, ◌≡◌, ℕ, ◌≤◌, ◌<◌, get_or}
-use Rattle.table.specs.Kind as kind
+-- Words that are all 0.
+use Rattle.std.specs.Prelude.{List, ◌≡◌, ℕ, ◌<◌, length, get_or}
 
-abbrev pub Zeros : ℕ → List ℕ → Type 0
-Zeros n t = (f : ℕ) → f < n → kind.zeros_at ≤ f → get_or t f 0 ≡ 0
+abbrev pub Zeros : List ℕ → Type 0
+Zeros words = (i : ℕ) → i < length words → get_or words i 0 ≡ 0

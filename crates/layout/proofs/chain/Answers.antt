@@ -6,14 +6,14 @@ use Rattle.layout.proofs.Laws.{chain_none, chain_on}
 use Rattle.layout.proofs.chain.Goals as goal
 
 pub loop-r-init : goal.loop-r-init
-loop-r-init c = (omega arith, search rules, c.requires.t_value ∙ chain_none _)
+loop-r-init c = (search rules, c.requires.t_value ∙ chain_none _)
 
 pub loop-r-preserved : goal.loop-r-preserved
 loop-r-preserved c =
-    (omega arith, search rules, chain_on _ _ _ c.next_free-n.ensures c.set_item.ensures.writes c.set_client.ensures.writes c.loop-r.invariant.2)
+    (search rules, chain_on _ _ _ c.next_free-next.ensures c.set_item.ensures.writes c.set_client.ensures.writes c.loop-r.invariant.1)
 
 pub returns : goal.returns
 returns c =
     let q = c.args.q in
     let all : c.loop-r.r ≡ q = omega arith in
-    rw all at c.loop-r.invariant.2
+    rw all at c.loop-r.invariant.1

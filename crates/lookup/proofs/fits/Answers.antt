@@ -6,9 +6,6 @@ use Rattle.lookup.proofs.fits.Goals as goal
 pub returns-then-r-q : goal.returns-then-r-q
 returns-then-r-q c = search (fits_out, rules)
 
-pub client-requires : goal.client-requires
-client-requires c = search rules
-
 pub returns-then-client-eq0 : goal.returns-then-client-eq0
 returns-then-client-eq0 c = search (fits_idle, rules)
 

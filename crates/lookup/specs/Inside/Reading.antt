@@ -1,5 +1,5 @@
 -- What the loops over a table's words read: the rows from a pointer on, and what the check tests of them.
-use Rattle.std.specs.Prelude.{List, [], ◌∷◌, map, cond, ◌≡◌, ℕ, zero, suc, ◌+◌, ◌≤◌, ◌<◌, eqb, length}
+use Rattle.std.specs.Prelude.{List, [], ◌∷◌, map, cond, ◌≡◌, ℕ, zero, suc, ◌+◌, ◌-◌, ◌≤◌, ◌<◌, eqb, length, Option, SomeIff}
 use Rattle.table.specs.Kind as kind
 use Rattle.table.specs.Regions.{regions, bucket_word}
 use Rattle.table.specs.Owners.{lookup_words, order_words}
@@ -59,10 +59,9 @@ module _ (q : ℕ) (t : List ℕ) where
     pub ends : Ends q (next_of q t) h
     pub fits : All (Fits b) (from q t h)
 
-  -- of room for n rows r is left after that chain; nothing where it is wrong or has no room
-  pub record Left (b h n r : ℕ) : Type 0 where
-    pub went : 0 < r → Fitting b h × (length (from q t h) + r ≡ n)
-    pub goes : Fitting b h → length (from q t h) < n → length (from q t h) + r ≡ n
+  -- what is left of room for n rows after that chain: none where it is wrong or has not the room
+  pub record Left (b h n : ℕ) (left : Option ℕ) : Type 0 where
+    pub so : SomeIff left (Fitting b h × (length (from q t h) ≤ n)) (n - length (from q t h))
 
   -- a client's row whose id is not x
   pub record Other (x r : ℕ) : Type 0 where

@@ -4,7 +4,7 @@ use Rattle.order.proofs.Together.{still_listed, somebody, dismisses}
 use Rattle.order.proofs.dismiss.Goals as goal
 
 pub leave-requires : goal.leave-requires
-leave-requires c = record { sized = c.requires.sized; r_lt_q = (client_row_lem c.requires.sized.small c.requires.drawn, c.requires.spread); a_client = c.requires.a_client }
+leave-requires c = record { sized = c.requires.sized; r_lt_q = client_row_lem c.requires.sized.small c.requires.drawn; a_client = c.requires.a_client }
 
 pub remove-requires : goal.remove-requires
 remove-requires c = record { sized = c.leave.ensures.still_sized; drawn = still_listed c.requires.drawn c.leave.ensures.leaves }

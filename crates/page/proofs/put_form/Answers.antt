@@ -1,34 +1,43 @@
--- The first j bytes of the form are put, with the first k numbers. Assumes nothing.
-use Prim.Native.Nat.{◌-◌}
-use native.Mathlib.Omega.{arith}
+-- The bytes of the form up to this one are put, with as many of the numbers as there were marks. Assumes nothing.
+use Prim.Native.Nat.{◌≤◌}
 use borrow.Author.Rules.{rules}
-use lib.ListN.{length}
-use Rattle.page.proofs.Put.{put_length}
-use Rattle.page.proofs.Begun.{begin}
-use Rattle.page.proofs.Form.{mark_room, mark_turn, byte_room, byte_turn, filling_end}
+use lib.ListN.{length, drop_of_length-le}
+use Rattle.page.specs.Form.{filled}
+use Rattle.page.proofs.Begun.{begin, begun_room, begun_next, begun_end}
+use Rattle.page.proofs.Form.{at_mark, at_byte, next_number}
 use Rattle.page.proofs.put_form.Goals as goal
-use Rattle.page.proofs.put_form.Goals.{then-is_mark, else-is_mark}
+use Rattle.page.proofs.put_form.Goals.{then-byte-eq-MARK, else-byte-eq-MARK}
 
-pub loop-j-init : goal.loop-j-init
-loop-j-init c = search (begin, rules)
+pub loop-byte-init : goal.loop-byte-init
+loop-byte-init c = search (begin, rules)
 
-pub put_number-i-requires : goal.put_number-i-requires
-put_number-i-requires c =
-    rw c.nth.ensures (mark_room c.loop-j.invariant c.loop-j-test.true c.if-is_mark.true)
+pub put_number-end-requires : goal.put_number-end-requires
+put_number-end-requires c =
+    let number = next_number _ _ _ c.next.ensures.steps in
+    rw (c.unwrap_or.ensures, c.copied.ensures, number.0)
+    (begun_room _ (rw (at_mark c.args.form.now _ c.loop-byte.byte-index c.loop-byte-test.true c.if-byte-eq-MARK.true) at c.loop-byte.invariant))
 
-pub bounds-out-i : goal.bounds-out-i
-bounds-out-i c =
-    omega (arith, byte_room c.loop-j.invariant c.loop-j-test.true c.if-is_mark.false)
+pub put_text-end-requires : goal.put_text-end-requires
+put_text-end-requires c =
+    begun_room _ (rw (at_byte c.args.form.now _ c.loop-byte.byte-index c.loop-byte-test.true c.if-byte-eq-MARK.false) at c.loop-byte.invariant)
 
-pub loop-j-preserved : goal.loop-j-preserved
-loop-j-preserved c =
-    elim c.if-is_mark.branch [
-      | then-is_mark w ↦ rw (w.out-is, w.i-is, w.k-is) (mark_turn c.loop-j.invariant c.loop-j-test.true w.if-is_mark.true (rw w.nth.ensures at w.put_number-i.ensures))
-      | else-is_mark w ↦ rw (w.out-is, w.i-is, w.k-is) (byte_turn c.loop-j.invariant c.loop-j-test.true w.if-is_mark.false)
+pub loop-byte-preserved : goal.loop-byte-preserved
+loop-byte-preserved c =
+    let form = c.args.form.now in
+    let j = c.loop-byte.byte-index in
+    elim c.if-byte-eq-MARK.branch [
+      | then-byte-eq-MARK w ↦
+          let number = next_number _ _ _ w.next.ensures.steps in
+          rw (w.out-is, w.end-is, w.left-is, number.1)
+          (begun_next _ (rw (at_mark form _ j c.loop-byte-test.true w.if-byte-eq-MARK.true) at c.loop-byte.invariant)
+          (rw (w.unwrap_or.ensures, w.copied.ensures, number.0) at w.put_number-end.ensures))
+      | else-byte-eq-MARK w ↦
+          rw (w.out-is, w.end-is, w.left-is)
+          (begun_next _ (rw (at_byte form _ j c.loop-byte-test.true w.if-byte-eq-MARK.false) at c.loop-byte.invariant) w.put_text-end.ensures)
     ]
 
-pub shape_of-out : goal.shape_of-out
-shape_of-out c = put_length c.loop-j.invariant.begun.put
-
 pub returns : goal.returns
-returns c = filling_end c.loop-j.invariant c.loop-j-test.false
+unfolding filled
+returns c =
+    let n : length c.args.form.now ≤ c.loop-byte.byte-index = c.loop-byte-test.false in
+    begun_end (rw (drop_of_length-le c.args.form.now n) at c.loop-byte.invariant)

@@ -3,7 +3,7 @@ use Rattle.printer.proofs.Session.{fresh_ready, line_room, after_ready, list_roo
 use Rattle.printer.proofs.carry_out.Goals as goal
 
 pub run-requires : goal.run-requires
-run-requires c = record { ready = fresh_ready c.args.q c.requires.q_value.0 c.requires.q_value.1; spread = c.table-s.ensures }
+run-requires c = record { ready = fresh_ready c.args.q c.requires.q_value.0 c.requires.q_value.1 }
 
 pub line-at-requires : goal.line-at-requires
 line-at-requires c = line_room c.args.q c.requires.q_value.0 c.requires.q_value.1 c.args.commands.now c.run.ensures.value c.requires.room

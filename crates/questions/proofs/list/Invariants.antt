@@ -1,10 +1,6 @@
 -- The loop keeps `Walked`: the pairs that are still to store make the same output as all of them did at the start.
-use Prim.Native.Nat.{◌-◌}
 use Rattle.questions.proofs.Walk.{Walked}
 use Rattle.questions.proofs.list.Given as goal
 
 abbrev pub invariant-loop-i : goal.invariant-loop-i
-invariant-loop-i l = Walked l.q l.t l.link l.n l.first l.initial.out l.out l.r l.i
-
-abbrev pub decreases-loop-i : goal.decreases-loop-i
-decreases-loop-i l = l.n - l.i
+invariant-loop-i l = Walked l.q l.t l.link l.n l.first l.initial.out l.out l.row l.i

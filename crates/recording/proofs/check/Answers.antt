@@ -1,9 +1,17 @@
 -- The two parts come to the check, which fits. Assumes nothing.
+use mathlib.Core.Path.{sym}
 use native.Mathlib.Omega.{arith}
 use borrow.Author.Rules.{rules}
+use lib.Seq.{length-take-le}
 use Rattle.recording.proofs.Noticed.{check_most}
 use Rattle.recording.proofs.Sum.{all_below, both_summed}
 use Rattle.recording.proofs.check.Goals as goal
+
+pub slice_bounds-part-end : goal.slice_bounds-part-end
+slice_bounds-part-end c = sym (length-take-le 256 c.args.b.now (search rules))
+
+pub part-requires : goal.part-requires
+part-requires c = (omega arith, omega (arith, length-take-le 256 c.args.b.now (search rules)))
 
 pub returns : goal.returns
 returns c = omega (arith, c.part.ensures, c.part-2.ensures, both_summed c.args.b.now (search rules))

@@ -2,5 +2,5 @@
 use Rattle.replay.proofs.Counting.{answer_counted}
 use Rattle.replay.proofs.replayed.Goals as goal
 
-pub returns-in-Reported : goal.returns-in-Reported
-returns-in-Reported c = answer_counted c.args.t.now c.args.first c.args.bytes.now c.in-Reported.ensures.reply
+pub returns-in-Ok : goal.returns-in-Ok
+returns-in-Ok c = answer_counted c.args.t.now c.args.first c.args.bytes.now c.in-Ok.ensures.reply

@@ -1,16 +1,14 @@
 -- `all` says whether a run would carry out the commands before the k-th. Assumes nothing.
-use mathlib.Core.Path.{ap, ◌∙◌}
 use borrow.Author.Rules.{rules}
-use Rattle.command.specs.Bytes.{is_known}
 use Rattle.replayer.proofs.Tests.{none_tested, one_tested, all_tested}
 use Rattle.replayer.proofs.all_known.Goals as goal
 
 pub loop-k-init : goal.loop-k-init
-loop-k-init c = none_tested (search rules) (search rules) c.used_in-used.ensures
+loop-k-init c = none_tested (search rules) (search rules) c.used_in-k-end.ensures
 
 pub loop-k-preserved : goal.loop-k-preserved
 loop-k-preserved c =
-    one_tested c.loop-k.invariant c.loop-k-test.true (c.known_unbranched-all.ensures ∙ ap is_known c.command_at.ensures)
+    one_tested c.loop-k.invariant (search rules) c.is_command_at-all.ensures
 
 pub returns : goal.returns
-returns c = all_tested c.loop-k.invariant c.loop-k-test.false
+returns c = all_tested c.loop-k.invariant (search rules)

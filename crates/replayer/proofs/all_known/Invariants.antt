@@ -1,10 +1,6 @@
 -- `all` says whether a run would carry out the commands before the k-th. Assumes nothing.
-use Prim.Native.Nat.{◌-◌}
 use Rattle.replayer.proofs.Tests.{KnownTo}
 use Rattle.replayer.proofs.all_known.Given as goal
 
 abbrev pub invariant-loop-k : goal.invariant-loop-k
-invariant-loop-k l = KnownTo l.b l.used l.k l.all
-
-abbrev pub decreases-loop-k : goal.decreases-loop-k
-decreases-loop-k l = l.used - l.k
+invariant-loop-k l = KnownTo l.b l.k-end l.k l.all

@@ -1,17 +1,19 @@
--- The unused bytes before the place are 0. Assumes nothing.
-use mathlib.Core.Path.{refl}
+-- The unused bytes are 0. Assumes nothing.
+use mathlib.Core.Path.{ap, ◌∙◌}
+use Prim.Native.Nat.{◌*◌}
+use native.Mathlib.Omega.{arith}
 use borrow.Author.Rules.{rules}
-use Rattle.replayer.proofs.Tests.{all_zero, one_zero, one_other}
+use borrow.Author.Tests.{tests}
+use lib.Dec.{eqb}
+use Rattle.std.proofs.lemmas.Iterator.{YieldsList-from_slice}
+use Rattle.std.proofs.lemmas.Iterator.Search.{all_from_yields_List}
+use Rattle.rules.specs.Run.{command_bytes}
+use Rattle.recording.specs.Kind as kind
+use Rattle.recording.specs.Block.{zeros}
+use Rattle.replayer.proofs.Tests.{all_zero, middle}
 use Rattle.replayer.proofs.unused_zero.Goals as goal
 
-pub loop-i-init : goal.loop-i-init
-loop-i-init c = record { long = search rules; inside = search rules; all = refl }
-
-pub returns-then-b-i-ne0 : goal.returns-then-b-i-ne0
-returns-then-b-i-ne0 c = one_other c.loop-i.invariant c.loop-i-test.true c.if-b-i-ne0.true
-
-pub loop-i-preserved : goal.loop-i-preserved
-loop-i-preserved c = one_zero c.loop-i.invariant c.loop-i-test.true c.if-b-i-ne0.false
-
 pub returns : goal.returns
-returns c = all_zero c.loop-i.invariant c.loop-i-test.false
+returns c =
+    all_from_yields_List (λ x. eqb x 0) _ _ _ c.all.ensures.ran (YieldsList-from_slice _ c.iter.ensures.rest) (λ x b q k. search (rules, tests))
+    ∙ all_zero _ ∙ ap zeros (middle (command_bytes * c.args.used) kind.used_at c.args.b.now (omega arith))

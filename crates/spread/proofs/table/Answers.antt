@@ -3,5 +3,5 @@ use mathlib.Core.Path.{refl}
 use Rattle.spread.proofs.Rule.{is_spread}
 use Rattle.spread.proofs.table.Goals as goal
 
-pub returns : goal.returns
-returns c = is_spread refl refl
+pub invariant_of-result : goal.invariant_of-result
+invariant_of-result c = record { by_rule = is_spread refl refl }

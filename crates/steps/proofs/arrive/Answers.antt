@@ -26,7 +26,7 @@ arriving j =
     ]
 
 pub find-at-requires : goal.find-at-requires
-find-at-requires c = record { sized = ready_sized c.requires.ready; q_nonzero = (ready_some c.requires.ready, c.requires.spread); kept = ready_kept c.requires.ready }
+find-at-requires c = record { sized = ready_sized c.requires.ready; q_nonzero = ready_some c.requires.ready; kept = ready_kept c.requires.ready }
 
 pub count_in-n-requires : goal.count_in-n-requires
 count_in-n-requires c = record { ready = c.requires.ready; link = found_low c.requires.ready (ready_found c.requires.ready c.find-at.ensures) }

@@ -9,7 +9,7 @@ request_in-gone-requires c = record { ready = c.requires.ready; waits = c.requir
 pub dismiss-requires : goal.dismiss-requires
 dismiss-requires c =
     let k = last_asks c.requires.ready _ c.requires.waits.0 _ c.requires.waits.1 c.requires.c_value in
-    record { sized = ready_sized c.requires.ready; spread = c.requires.spread; drawn = k.0; a_client = k.1 }
+    record { sized = ready_sized c.requires.ready; drawn = k.0; a_client = k.1 }
 
 pub leave_only-requires : goal.leave_only-requires
 leave_only-requires c = record { sized = c.dismiss.ensures.still_sized; item_of = last_still c.requires.ready _ c.requires.waits.0 _ c.requires.waits.1 c.requires.c_value c.dismiss.ensures.dismisses }

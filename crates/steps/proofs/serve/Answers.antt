@@ -26,7 +26,7 @@ client-n-requires c = record { sized = ready_sized c.requires.ready; r_lt_q = (o
 pub leave_only-requires : goal.leave_only-requires
 leave_only-requires c = let some = serve_some c.requires.ready (requests_are c.requires.ready c.header.ensures) c.if-header-eq0.false in
     let e = c.header-r.ensures in
-    record { ready = c.requires.ready; spread = c.requires.spread; waits = ((front_waits c.requires.ready some e).there, front_owner c.requires.ready some e c.item-c.ensures); c_value = sym (owner_count c.requires.ready some e c.item-c.ensures c.client-n.ensures) ∙ c.if-n-eq1.true }
+    record { ready = c.requires.ready; waits = ((front_waits c.requires.ready some e).there, front_owner c.requires.ready some e c.item-c.ensures); c_value = sym (owner_count c.requires.ready some e c.item-c.ensures c.client-n.ensures) ∙ c.if-n-eq1.true }
 
 pub returns-then-n-eq1 : goal.returns-then-n-eq1
 returns-then-n-eq1 c = let k = front_left c.requires.ready c.header.ensures c.if-header-eq0.false c.header-r.ensures c.leave_only.ensures.value c.leave_only.ensures.t_after in record { reply = k.0; words = k.1 }

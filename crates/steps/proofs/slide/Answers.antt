@@ -15,7 +15,7 @@ roomy j =
     ]
 
 pub arrive-requires : goal.arrive-requires
-arrive-requires c = record { ready = (roomy c).ready; spread = c.requires.spread }
+arrive-requires c = record { ready = (roomy c).ready }
 
 pub returns : goal.returns
 returns c =

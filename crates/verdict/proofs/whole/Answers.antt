@@ -15,5 +15,5 @@ returns-then-not-check_lookup c =
 
 pub returns : goal.returns
 returns c =
-    items_tell _ c.requires.mark_at_value.1 _ c.header-n.ensures c.requires.sized c.requires.le_q.0 c.requires.mark_at_value.0 (told c.zeros.ensures c.if-not-zeros.false)
+    items_tell _ c.requires.mark_at_value.1 _ c.header-n.ensures c.requires.sized c.requires.le_q c.requires.mark_at_value.0 (told c.zeros.ensures c.if-not-zeros.false)
     (told c.check_order.ensures c.if-not-check_order.false) c.check_lookup.ensures c.if-not-check_lookup.false c.check_items.ensures

@@ -1,0 +1,1 @@
+grep -nE '(fn |^    ).*\b(kind|case|stop|refused|room): (u8|u32|bool)\b|fn (of|refuse)\(.*\b(number|n): u32|fn .*\b(f|link|end): usize' crates/*/src/*.rt | grep -vE ': +(pub )?(stop|refused): u32,$|pub kind: u8,$'

@@ -1,0 +1,1 @@
+grep -nE '(==|!=) LinkedTable::NONE|\b(number|refused|stop|left) (==|!=) 0|number == Refusal::' crates/*/src/*.rt

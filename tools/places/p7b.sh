@@ -1,0 +1,1 @@
+grep -nE 'if \w+ == LinkedTable::NONE \{$|\w+\(.*\) \|\| \w+\(' crates/*/src/*.rt
