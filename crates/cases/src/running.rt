@@ -4,17 +4,14 @@ use answers::Report;
 use std::rt::Files;
 
 fn line(rt: &impl Print, r: Report) {
-    let _ = print!(rt;
-        " stop {} done {} joined {} evicted {} passed {} served {} turned {} idle {}",
-        u32::from(r.stop),
-        r.done,
-        r.joined,
-        r.evicted,
-        r.passed,
-        r.served,
-        r.turned,
-        r.idle,
-    );
+    report::field(rt, b" stop ", u32::from(r.stop));
+    report::field(rt, b" done ", r.done);
+    report::field(rt, b" joined ", r.joined);
+    report::field(rt, b" evicted ", r.evicted);
+    report::field(rt, b" passed ", r.passed);
+    report::field(rt, b" served ", r.served);
+    report::field(rt, b" turned ", r.turned);
+    report::field(rt, b" idle ", r.idle);
 }
 
 // Runs the commands of a printer's input, whatever its Q, with a budget.

@@ -1,11 +1,16 @@
--- The command in nine bytes as the code holds it, which of the rules' it is, and the nine bytes of a command.
+-- What nine bytes say, the command in them as the code holds it, which of the rules' it is, and the nine bytes of a command.
 use Rattle.std.specs.Prelude.{cond, eqb, List, [], ◌∷◌, ◌++◌, ℕ, ◌/◌, ◌%◌, Option, Some, None}
 use Rattle.rules.specs.Commands as commands
 use Rattle.rules.specs.Commands.{arriving, sliding, serving}
 use Rattle.rules.specs.Run.{kind_of, id_in, ticket_in, known}
 use Rattle.answers.specs.Engine.{as_request}
+use Rattle.command.specs.declared.NineBytes.{NineBytes}
 use Rattle.command.specs.declared.Command.{Command}
 use Rattle.command.specs.declared.Command.TheVariants.{Arrive, Slide, Serve}
+
+-- the front of the bytes
+abbrev pub command_at : List ℕ → NineBytes
+command_at s = record { kind = kind_of s; id = id_in s; ticket = ticket_in s }
 
 -- which command it is
 abbrev pub as_command : Command → commands.Command
@@ -21,7 +26,7 @@ known_command k i t = cond (eqb k 1) (Arrive (record { id = i; ticket = t })) (c
 abbrev pub command_of : ℕ → ℕ → ℕ → Option Command
 command_of k i t = cond (known k i t) (Some (known_command k i t)) None
 
--- the front of the bytes
+-- the command in the front of the bytes, if they are one
 abbrev pub command_in : List ℕ → Option Command
 command_in s = command_of (kind_of s) (id_in s) (ticket_in s)
 

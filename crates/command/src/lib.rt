@@ -3,9 +3,17 @@
 
 ghost use Rattle.std.specs.Prelude.{◌≡◌, ◌+◌, ◌≤◌, length, drop};
 ghost use Rattle.rules.specs.Run.{command_bytes, four_bytes, known, kind_of, id_in, ticket_in};
-ghost use Rattle.command.specs.Bytes.{as_command, command_of, command_in, bytes_of};
+ghost use Rattle.command.specs.Bytes.{command_at, as_command, command_of, command_in, bytes_of};
 
 use answers::Request;
+
+// What nine bytes say, whether they are a command or not: a kind, an id and a ticket.
+#[derive(Clone, Copy, Debug, PartialEq, Eq)]
+pub struct NineBytes {
+    pub kind: u8,
+    pub id: u32,
+    pub ticket: u32,
+}
 
 // A request arrives, a request slides in, or the front one is served.
 #[derive(Clone, Copy, Debug, PartialEq, Eq)]
@@ -19,11 +27,11 @@ impl Command {
     pub const BYTES: usize = 9;
 
     // The kinds, as the first byte has them.
-    const ARRIVE: u32 = 1;
+    pub const ARRIVE: u32 = 1;
 
-    const SLIDE: u32 = 2;
+    pub const SLIDE: u32 = 2;
 
-    const SERVE: u32 = 3;
+    pub const SERVE: u32 = 3;
 
     // The command that a kind, an id and a ticket are, if they are one.
     pub fn of(kind: u32, id: u32, ticket: u32) -> Option<Command>
@@ -60,12 +68,25 @@ pub fn number(s: &[u8], at: usize) -> u32
     u32::from_le_bytes([s[at], s[at + 1], s[at + 2], s[at + 3]])
 }
 
-// The command in the nine bytes at a place, if they are one.
-pub fn command_at(s: &[u8], at: usize) -> Option<Command>
+// The nine bytes at a place.
+pub fn command_at(s: &[u8], at: usize) -> NineBytes
+    requires { at + command_bytes ≤ length s.now }
+    ensures { result ≡ command_at (drop at s.now) }
+{
+    NineBytes {
+        kind: s[at],
+        id: number(s, at + 1),
+        ticket: number(s, at + 5),
+    }
+}
+
+// The command that they are, if they are one.
+pub fn known_at(s: &[u8], at: usize) -> Option<Command>
     requires { at + command_bytes ≤ length s.now }
     ensures { result ≡ command_in (drop at s.now) }
 {
-    Command::of(u32::from(s[at]), number(s, at + 1), number(s, at + 5))
+    let said = command_at(s, at);
+    Command::of(u32::from(said.kind), said.id, said.ticket)
 }
 
 // Whether they are a command, told without a branch, for whoever tests many: no processor foretells their kinds.
@@ -73,7 +94,8 @@ pub fn is_command_at(s: &[u8], at: usize) -> bool
     requires { at + command_bytes ≤ length s.now }
     ensures { result ≡ known (kind_of (drop at s.now)) (id_in (drop at s.now)) (ticket_in (drop at s.now)) }
 {
-    let kind = u32::from(s[at]);
-    let empty = (number(s, at + 1) == 0) & (number(s, at + 5) == 0);
+    let said = command_at(s, at);
+    let kind = u32::from(said.kind);
+    let empty = (said.id == 0) & (said.ticket == 0);
     (kind == Command::ARRIVE) | ((kind == Command::SLIDE) | ((kind == Command::SERVE) & empty))
 }

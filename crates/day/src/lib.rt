@@ -13,6 +13,9 @@ pub struct Day {}
 impl Day {
     // How many totals it has: joined, evicted, passed, served, turned away, idle.
     pub const TOTALS: usize = 6;
+
+    // The largest value of a total.
+    pub const LARGEST: u64 = u64::MAX;
 }
 
 // The totals of a report, as the record has them.

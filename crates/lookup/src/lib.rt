@@ -17,7 +17,8 @@ use spread::Spread;
 use table::LinkedTable;
 
 // Where an id was sought: its client's row or none, as a link word has it, for the layers above know rows by their links; and its bucket, which only the lookup reads.
-#[derive(Clone, Copy, Debug, PartialEq, Eq)]
+// So it is not compared or printed: that would read the bucket.
+#[derive(Clone, Copy)]
 pub struct Sought {
     pub row: u32,
     bucket: usize,

@@ -10,7 +10,7 @@ ghost use Rattle.recording.specs.Kind as kind;
 ghost use Rattle.record.specs.Fills.{Fills};
 
 use answers::Stop;
-use command::Command;
+use command::{Command, NineBytes};
 use recording::Block;
 
 // What came of a block's commands: how many were recorded, and where the rest of them stops.
@@ -39,10 +39,8 @@ fn fill(block: &mut [u8; Block::BYTES], number: u64, s: &[u8]) -> Filled
     let before = Block::COMMANDS as u64 * number;
     let whole = s.len() / Command::BYTES;
     for k in 0..whole {
-        let at = Command::BYTES * k;
-        let kind = u32::from(s[at]);
-        let id = command::number(s, at + 1);
-        let ticket = command::number(s, at + 5);
+        let NineBytes { kind, id, ticket } = command::command_at(s, Command::BYTES * k);
+        let kind = u32::from(kind);
         if let Err(refusal) = recorder::record(block, before + k as u64, kind, id, ticket) {
             return Filled {
                 commands: k as u64,

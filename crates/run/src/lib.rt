@@ -115,7 +115,7 @@ pub fn run(t: &mut [u32], q: usize, s: &Spread, bytes: &[u8], budget: u64) -> Re
         if rest.len() < Command::BYTES {
             return report(Stop::Cut, done, seen);
         }
-        let Some(command) = command::command_at(rest, 0) else {
+        let Some(command) = command::known_at(rest, 0) else {
             return report(Stop::BadCommand, done, seen);
         };
         let k = carry_out(t, q, s, command).place();

@@ -8,9 +8,10 @@ ghost use Rattle.rules.specs.Spread.{spread_at, bucket, IsSpread};
 mod numbers;
 
 // The spread table by value. A use of the constant writes it out anew, so an outer call makes it once and lends it down.
-#[derive(Drop)]
+// Its numbers may be read, and whoever has them from elsewhere may make one: whatever makes one is held to the rule.
+#[derive(Clone, Copy)]
 pub struct Spread {
-    numbers: [u32; 1024],
+    pub numbers: [u32; 1024],
     pub ghost by_rule: { IsSpread numbers },
 }
 

@@ -22,8 +22,9 @@ impl Command {
 }
 
 // The request that left.
-fn left(rt: &impl Print, how: &str, r: Request) {
-    let _ = print!(rt; "{how} {} {}", r.id, r.ticket);
+fn left(rt: &impl Print, how: &[u8], r: Request) {
+    report::field(rt, how, r.id);
+    report::field(rt, b" ", r.ticket);
 }
 
 fn refused(rt: &impl Print, refusal: Refusal) {
@@ -33,7 +34,7 @@ fn refused(rt: &impl Print, refusal: Refusal) {
 fn arrived(rt: &impl Print, answer: Result<Choice, Refusal>) {
     match answer {
         Ok(Choice::Joined) => report::text(rt, b"joined 0 0"),
-        Ok(Choice::Evicted(r)) => left(rt, "evicted", r),
+        Ok(Choice::Evicted(r)) => left(rt, b"evicted ", r),
         Ok(Choice::Turned) => report::text(rt, b"turned 0 0"),
         Err(refusal) => refused(rt, refusal),
     }
@@ -42,14 +43,14 @@ fn arrived(rt: &impl Print, answer: Result<Choice, Refusal>) {
 fn slid(rt: &impl Print, answer: Result<Option<Request>, Refusal>) {
     match answer {
         Ok(None) => report::text(rt, b"joined 0 0"),
-        Ok(Some(r)) => left(rt, "passed", r),
+        Ok(Some(r)) => left(rt, b"passed ", r),
         Err(refusal) => refused(rt, refusal),
     }
 }
 
 fn served(rt: &impl Print, answer: Result<Request, Refusal>) {
     match answer {
-        Ok(r) => left(rt, "served", r),
+        Ok(r) => left(rt, b"served ", r),
         Err(Refusal::NobodyWaits) => report::text(rt, b"nobody 0 0"),
         Err(refusal) => refused(rt, refusal),
     }

@@ -40,7 +40,7 @@ report-requires-in_default c = let i = c.loop-rest.invariant in joined_below i.0
 
 pub returns-in_default : goal.returns-in_default
 returns-in_default c =
-    let k = no_command c.loop-rest.invariant.0 (search (rules, tests)) c.if-done-budget.false c.if-rest-lt-BYTES.false (let s = c.loop-rest.rest.now in is_none (kind_of s) (id_in s) (ticket_in s) c.in_default.is c.command_at.ensures) in
+    let k = no_command c.loop-rest.invariant.0 (search (rules, tests)) c.if-done-budget.false c.if-rest-lt-BYTES.false (let s = c.loop-rest.rest.now in is_none (kind_of s) (id_in s) (ticket_in s) c.in_default.is c.known_at.ensures) in
     record { value = c.report-in_default.ensures ∙ k.0; t_after = k.1 }
 
 -- where it is counted
@@ -65,7 +65,7 @@ pub loop-rest-preserved : goal.loop-rest-preserved
 loop-rest-preserved c =
     let i = c.loop-rest.invariant in
     let rest = c.loop-rest.rest.now in
-    let known = is_some (kind_of rest) (id_in rest) (ticket_in rest) c.in-Some.is c.command_at.ensures in
+    let known = is_some (kind_of rest) (id_in rest) (ticket_in rest) c.in-Some.is c.known_at.ensures in
     let left : take (length rest - command_bytes) (drop command_bytes rest) ≡ drop command_bytes rest = take_all _ _ (omega (arith, length-drop command_bytes rest)) in (
       again i.0 (search (rules, tests)) c.if-done-budget.false c.if-rest-lt-BYTES.false known.0 known.1 (c.place-k.ensures ∙ ap place_of c.carry_out.ensures.value)
           c.carry_out.ensures.t_after left,
