@@ -1,12 +1,11 @@
 -- Texts that are put into bytes, one after the other.
-use mathlib.Core.List.{List, [], ◌∷◌, ◌++◌, append_assoc}
+use mathlib.Core.List.{List, ◌++◌, append_assoc}
 use mathlib.Core.Path.{◌≡◌, refl}
-use Prim.Native.Nat.{ℕ, ◌+◌, ◌-◌, ◌≤◌, ◌<◌}
+use Prim.Native.Nat.{ℕ, ◌+◌, ◌-◌, ◌≤◌}
 use native.Mathlib.Nat.{add_assoc}
-use native.Mathlib.Numerals.{add-one}
 use native.Mathlib.Omega.{arith}
-use lib.ListN.{length, take, drop, set, length-append, length-drop}
-use lib.Seq.{length-take-le, take_at, drop-drop, drop-append-add, set_split, append_snoc}
+use lib.ListN.{length, take, drop, length-append, length-drop}
+use lib.Seq.{length-take-le, take_at, drop-drop, drop-append-add}
 use borrow.Rule.Slice.PartMut.{put_mid}
 use Rattle.page.specs.Put.{written, Room, Put}
 
@@ -36,14 +35,6 @@ unfolding written
 copied at s out part e =
     let long : at + length s - at ≡ length s = omega arith in
     rw (e, long, drop-drop, append_assoc)
-
--- a byte is a text of one
-written_one : (at d : ℕ) (out : List ℕ) → at < length out → set out at d ≡ written at (d ∷ []) out
-unfolding written
-written_one at d out h = rw (set_split out at d h, add-one, append_snoc)
-
-pub put_one : {out : List ℕ} {at d : ℕ} → Room out at (d ∷ []) → Put out at (d ∷ []) (set out at d) (at + 1)
-put_one {out} {at} {d} h = record { room = h; bytes = written_one at d out (omega arith); place = omega arith }
 
 -- one text after the other is both at once
 pub written_append : (at : ℕ) (s t out : List ℕ) → at ≤ length out → written (at + length s) t (written at s out) ≡ written at (s ++ t) out

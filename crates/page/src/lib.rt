@@ -1,7 +1,7 @@
 // Text and decimal numbers, written into lent bytes.
 #![tactic(auto)]
 
-ghost use Rattle.std.specs.Prelude.{[], ◌∷◌, ◌++◌};
+ghost use Rattle.std.specs.Prelude.{◌++◌};
 ghost use Rattle.page.specs.Text.{decimal};
 ghost use Rattle.page.specs.Form.{filled};
 ghost use Rattle.page.specs.Put.{Room, Put};
@@ -15,16 +15,6 @@ pub fn put_text(out: &mut [u8], at: usize, s: &[u8]) -> usize
     let end = at + s.len();
     out[at..end].copy_from_slice(s);
     end
-}
-
-// A byte goes to place `at`: the place after it.
-#[tactic(auto, using(crate::proofs::Put::put_one))]
-fn put_byte(out: &mut [u8], at: usize, byte: u8) -> usize
-    requires { Room out.old at (byte ∷ []) }
-    ensures { Put out.old at (byte ∷ []) out.new result }
-{
-    out[at] = byte;
-    at + 1
 }
 
 // The number n goes to place `at` in decimals: the place after it.
@@ -60,7 +50,7 @@ pub fn put_form(out: &mut [u8], at: usize, form: &[u8], numbers: &[u64]) -> usiz
         end = if byte == MARK {
             put_number(out, end, left.next().copied().unwrap_or(0))
         } else {
-            put_byte(out, end, byte)
+            put_text(out, end, &[byte])
         };
     }
     end

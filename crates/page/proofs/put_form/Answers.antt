@@ -17,8 +17,8 @@ put_number-end-requires c =
     rw (c.unwrap_or.ensures, c.copied.ensures, number.0)
     (begun_room _ (rw (at_mark c.args.form.now _ c.loop-byte.byte-index c.loop-byte-test.true c.if-byte-eq-MARK.true) at c.loop-byte.invariant))
 
-pub put_byte-end-requires : goal.put_byte-end-requires
-put_byte-end-requires c =
+pub put_text-end-requires : goal.put_text-end-requires
+put_text-end-requires c =
     begun_room _ (rw (at_byte c.args.form.now _ c.loop-byte.byte-index c.loop-byte-test.true c.if-byte-eq-MARK.false) at c.loop-byte.invariant)
 
 pub loop-byte-preserved : goal.loop-byte-preserved
@@ -33,7 +33,7 @@ loop-byte-preserved c =
           (rw (w.unwrap_or.ensures, w.copied.ensures, number.0) at w.put_number-end.ensures))
       | else-byte-eq-MARK w ↦
           rw (w.out-is, w.end-is, w.left-is)
-          (begun_next _ (rw (at_byte form _ j c.loop-byte-test.true w.if-byte-eq-MARK.false) at c.loop-byte.invariant) w.put_byte-end.ensures)
+          (begun_next _ (rw (at_byte form _ j c.loop-byte-test.true w.if-byte-eq-MARK.false) at c.loop-byte.invariant) w.put_text-end.ensures)
     ]
 
 pub returns : goal.returns
